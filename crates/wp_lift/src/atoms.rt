@@ -1,0 +1,86 @@
+//! Ground atoms: a predicate's number with the numbers of objects.
+
+ghost use Rattle.std.specs.Prelude.{◌≡◌};
+
+use std::marker::Model;
+
+/// The objects that an atom or an instance is of, by number, one for each place.
+#[derive(Drop)]
+pub struct Args {
+    items: Vec<u32>,
+}
+
+impl Model for Args {
+    ghost use Rattle.std.specs.Prelude.{List, ℕ};
+
+    ghost Value = { List ℕ };
+
+    ghost view = { λ a. a.items.items };
+}
+
+impl Args {
+    /// The list of these items, in their order.
+    pub fn of_vec(items: Vec<u32>) -> Args
+        ensures { result ≡ items.items }
+    {
+        Args { items }
+    }
+
+    pub fn into_vec(self) -> Vec<u32>
+        ensures { result.items ≡ self }
+    {
+        let Args { items } = self;
+        items
+    }
+
+    pub fn as_slice(&self) -> &[u32]
+        ensures { result.now ≡ self.now }
+    {
+        self.items.as_slice()
+    }
+}
+
+/// An atom without variables.
+#[derive(Drop)]
+pub struct GroundAtom {
+    /// The number of its predicate.
+    pub pred: u32,
+    pub args: Args,
+}
+
+/// A list of ground atoms.
+#[derive(Drop)]
+pub struct GroundAtoms {
+    items: Vec<GroundAtom>,
+}
+
+impl Model for GroundAtoms {
+    ghost use Rattle.std.specs.Prelude.{List};
+    ghost use Rattle.wp_lift.specs.declared.atoms.GroundAtom.{GroundAtom};
+
+    ghost Value = { List GroundAtom };
+
+    ghost view = { λ a. a.items.items };
+}
+
+impl GroundAtoms {
+    /// The list of these items, in their order.
+    pub fn of_vec(items: Vec<GroundAtom>) -> GroundAtoms
+        ensures { result ≡ items.items }
+    {
+        GroundAtoms { items }
+    }
+
+    pub fn into_vec(self) -> Vec<GroundAtom>
+        ensures { result.items ≡ self }
+    {
+        let GroundAtoms { items } = self;
+        items
+    }
+
+    pub fn as_slice(&self) -> &[GroundAtom]
+        ensures { result.now ≡ self.now }
+    {
+        self.items.as_slice()
+    }
+}

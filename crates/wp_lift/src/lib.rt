@@ -1,0 +1,17 @@
+//! The lifted problem: objects, predicates and action schemas by number, and what they mean.
+//!
+//! Callers see a `Lifted` as a record of `specs/Problem.antt`, a `World` as a set of ground atoms, and the meaning of an
+//! instance, its conditions and its result, by `specs/Worlds.antt`, which knows nothing of names, types or texts.
+//! `lift` turns the records of `wp_syntax` into it, or answers the first fault of the walk of `specs/Lifting.antt`.
+//!
+//! Names are numbered in the order in which they are first seen, by hashing; subtypes are the closure of the declared
+//! pairs, one row of bits for each type. `wp_check` and `wp_ground` stand on it; it knows no plan and no search.
+#![tactic(auto)]
+
+mod atoms;
+mod schemas;
+
+pub use atoms::{Args, GroundAtom, GroundAtoms};
+pub use schemas::{
+    Pred, Preds, Schema, Schemas, Slot, SlotAtom, SlotCond, SlotConds, SlotEffect, SlotEffects, Slots,
+};
