@@ -10,6 +10,8 @@
 
 mod error;
 mod item;
+mod node;
 
 pub use error::LexError;
 pub use item::{Item, Items};
+pub use node::{Node, next};
