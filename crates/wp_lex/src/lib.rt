@@ -1,0 +1,17 @@
+//! The words, brackets and lexical faults of a text.
+//!
+//! `read_tree` gives the one list of a domain, a problem or any other PDDL text, `read_steps` the lists of a plan file.
+//! Callers see the items of a list from its `Open` to its `Close`, kept flat, so that no type holds itself; where the text has
+//! a lexical fault they see the first one, at its place. Both are defined over the whole text (`specs/Words.antt`, `specs/Faults.antt`).
+//!
+//! One pass reads both kinds of text. It keeps whether a comment or a word goes on and how many brackets it has passed;
+//! a word's bytes are copied when its first byte is met. `wp_syntax` reads what stands in the lists; nothing here knows PDDL.
+#![tactic(auto)]
+
+mod error;
+mod item;
+mod node;
+
+pub use error::LexError;
+pub use item::{Item, Items};
+pub use node::{Node, next};
