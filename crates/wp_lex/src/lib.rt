@@ -10,6 +10,7 @@
 
 mod error;
 mod item;
+mod place;
 
 pub use error::LexError;
 pub use item::{Item, Items};
