@@ -3,8 +3,9 @@
 -- A PDDL text is one list. A plan file is any number of lists, and between them stand labels, as `0.001:`, and durations, as `[1]`.
 -- At most 64 lists stand open at once: that limit is ours.
 use Rattle.std.specs.Prelude.{
-    ℕ, ◌+◌, ◌-◌, ◌≡◌, ◌==◌, nat_le, Bool, true, false, not, ◌&&◌, ◌||◌, if◌then◌else◌, Option, None, Some,
+    ℕ, ◌+◌, ◌-◌, ◌^◌, ◌≤◌, ◌<◌, ◌≡◌, ◌==◌, nat_le, Bool, true, false, not, ◌&&◌, ◌||◌, if◌then◌else◌, Option, None, Some,
     List, [], ◌∷◌, length, map, take, drop, slice_index, count_by}
+use Rattle.std.specs.Char.{is_ascii_digit}
 use Rattle.std.specs.List.{list_all, range_with_len}
 use Rattle.wp_lex.specs.declared.error.LexError.{LexError}
 use Rattle.wp_lex.specs.declared.error.LexError.TheVariants.{BadByte, Unopened, Unclosed, Trailing, TooDeep, Empty, Memory}
@@ -13,15 +14,18 @@ use Rattle.wp_lex.specs.declared.place.Source.TheVariants.{Pddl, Plan}
 use Rattle.wp_lex.specs.declared.place.Class.{Class}
 use Rattle.wp_lex.specs.declared.place.Class.TheVariants.{Letter, Opens, Closes, Blank, Bad}
 use Rattle.wp_lex.specs.declared.place.Place.{Place}
-use Rattle.wp_lex.specs.Words.{is_between, is_letter, is_opening, is_closing, class_at, follows_letter, word_of}
+use Rattle.wp_lex.specs.Words.{is_letter, is_opening, is_closing, class_at, follows_letter, word_of}
 
--- a word that ends with a colon, whose other bytes are digits with at most one point among them, the first a digit
+-- digits with at most one point among them, the first a digit
+abbrev pub is_number : List ℕ → Bool
+is_number bytes =
+    is_ascii_digit (slice_index bytes 0)
+    && list_all (λ byte. is_ascii_digit byte || byte == 46) bytes
+    && nat_le (count_by (λ byte. byte == 46) bytes) 1
+
+-- a number and a colon
 abbrev pub is_label : List ℕ → Bool
-is_label word =
-    is_between 48 57 (slice_index word 0)
-    && slice_index word (length word - 1) == 58
-    && list_all (λ byte. is_between 48 57 byte || byte == 46) (take (length word - 1) word)
-    && nat_le (count_by (λ byte. byte == 46) word) 1
+is_label word = slice_index word (length word - 1) == 58 && is_number (take (length word - 1) word)
 
 -- a word of at least two bytes that begins with `[` and ends with `]`
 abbrev pub is_duration : List ℕ → Bool
@@ -35,6 +39,21 @@ place_at text i = record {
   continues = follows_letter text i;
   opened = count_by (λ k. is_opening (class_at text k)) (range_with_len 0 i);
   closed = count_by (λ k. is_closing (class_at text k)) (range_with_len 0 i);
+}
+
+-- the counts of lists are at most that of the bytes, which is a length
+pub record IsCounted (place : Place) : Type 0 where
+  pub short : place.at < 2 ^ 64 - 1
+  pub opened_within : place.opened ≤ place.at
+  pub closed_within : place.closed ≤ place.at
+
+-- the next place, where a byte of the class stands at this one
+abbrev pub place_behind : Class → Place → Place
+place_behind class place = record {
+  at = place.at + 1;
+  continues = is_letter class;
+  opened = place.opened + (if is_opening class then 1 else 0);
+  closed = place.closed + (if is_closing class then 1 else 0);
 }
 
 -- the number of lists that stand open

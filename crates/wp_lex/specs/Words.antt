@@ -3,8 +3,9 @@
 -- letter case are PDDL's. All this is said of places in the whole text.
 use Rattle.std.specs.Prelude.{
     ℕ, zero, suc, ◌+◌, ◌==◌, nat_le, Bool, true, false, not, ◌&&◌, ◌||◌, if◌then◌else◌,
-    List, map, take, take_while, reverse, slice_index}
+    List, take, take_while, reverse, slice_index}
 use Rattle.std.specs.List.{list_any}
+use Rattle.std.specs.Str.{str_to_ascii_lowercase}
 use Rattle.wp_lex.specs.declared.place.Class.{Class}
 use Rattle.wp_lex.specs.declared.place.Class.TheVariants.{Letter, Opens, Closes, Blank, Bad}
 
@@ -53,10 +54,6 @@ abbrev pub follows_letter : List ℕ → ℕ → Bool
 follows_letter text zero = false
 follows_letter text (suc i) = is_letter (class_at text i)
 
--- A to Z become a to z
-abbrev pub lower : ℕ → ℕ
-lower byte = if is_between 65 90 byte then byte + 32 else byte
-
 -- the word that begins with the first of these bytes: a semicolon ends it, so no comment begins within it
 abbrev pub word_of : List ℕ → List ℕ
-word_of rest = map lower (take_while (λ byte. is_letter (class_of byte)) rest)
+word_of rest = str_to_ascii_lowercase (take_while (λ byte. is_letter (class_of byte)) rest)

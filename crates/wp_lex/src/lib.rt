@@ -10,6 +10,7 @@
 
 mod error;
 mod item;
+mod label;
 mod place;
 
 pub use error::LexError;
