@@ -1,2 +1,5 @@
 pub mod Trees
 pub mod Node
+pub mod Words
+pub mod Faults
+pub mod Items

@@ -11,6 +11,8 @@
 mod error;
 mod item;
 mod node;
+mod label;
+mod place;
 
 pub use error::LexError;
 pub use item::{Item, Items};

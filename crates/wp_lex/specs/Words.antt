@@ -1,0 +1,59 @@
+-- The words of a text: the longest runs of printable ASCII bytes other than brackets and the semicolon, outside comments,
+-- with A to Z turned into a to z. A comment runs from a semicolon to the next line feed (byte 10) or the end. Comments and
+-- letter case are PDDL's. All this is said of places in the whole text.
+use Rattle.std.specs.Prelude.{
+    ℕ, zero, suc, ◌+◌, ◌==◌, nat_le, Bool, true, false, not, ◌&&◌, ◌||◌, if◌then◌else◌,
+    List, take, take_while, reverse, slice_index}
+use Rattle.std.specs.List.{list_any}
+use Rattle.std.specs.Str.{str_to_ascii_lowercase}
+use Rattle.wp_lex.specs.declared.place.Class.{Class}
+use Rattle.wp_lex.specs.declared.place.Class.TheVariants.{Letter, Opens, Closes, Blank, Bad}
+
+-- the bytes from low to high
+abbrev pub is_between : ℕ → ℕ → ℕ → Bool
+is_between low high byte = nat_le low byte && nat_le byte high
+
+-- tab, line feed, vertical tab, form feed, carriage return and space
+abbrev pub is_separator : ℕ → Bool
+is_separator byte = is_between 9 13 byte || byte == 32
+
+-- brackets and the semicolon
+abbrev pub is_special : ℕ → Bool
+is_special byte = byte == 40 || byte == 41 || byte == 59
+
+-- what a byte is for, outside a comment: a semicolon separates words, as the comment does that it begins
+abbrev pub class_of : ℕ → Class
+class_of byte =
+    if byte == 40 then Opens
+    else (if byte == 41 then Closes
+    else (if is_separator byte || byte == 59 then Blank
+    else (if is_between 33 126 byte then Letter else Bad)))
+
+abbrev pub is_letter : Class → Bool
+is_letter Letter = true
+is_letter class = false
+
+abbrev pub is_opening : Class → Bool
+is_opening Opens = true
+is_opening class = false
+
+abbrev pub is_closing : Class → Bool
+is_closing Closes = true
+is_closing class = false
+
+-- whether a comment goes on behind the first n bytes: a semicolon stands in their last line
+abbrev pub is_commented : List ℕ → ℕ → Bool
+is_commented text n = list_any (λ byte. byte == 59) (take_while (λ byte. not (byte == 10)) (reverse (take n text)))
+
+-- what the byte at a place is for; a comment and its semicolon are blank
+abbrev pub class_at : List ℕ → ℕ → Class
+class_at text i = if is_commented text (i + 1) then Blank else class_of (slice_index text i)
+
+-- whether the byte before a place is one of a word
+abbrev pub follows_letter : List ℕ → ℕ → Bool
+follows_letter text zero = false
+follows_letter text (suc i) = is_letter (class_at text i)
+
+-- the word that begins with the first of these bytes: a semicolon ends it, so no comment begins within it
+abbrev pub word_of : List ℕ → List ℕ
+word_of rest = str_to_ascii_lowercase (take_while (λ byte. is_letter (class_of byte)) rest)
