@@ -1,0 +1,12 @@
+//! Plan files and verdicts: whether the steps of a plan, as a user writes them, are valid in a lifted problem.
+//!
+//! `read_plan` gives the steps of a plan file, `verdict` the first step that is bad, with its first cause, else the first
+//! goal atom that does not hold after the last step. Both are defined by `specs/PlanFile.antt` and `specs/Verdict.antt`,
+//! on the lifted level: nothing is grounded, and no planner is trusted. `wp_app` calls it for `check`.
+#![tactic(auto)]
+
+mod cause;
+mod step;
+
+pub use cause::{Verdict, Why};
+pub use step::{PlanError, Step, Steps};
