@@ -1,0 +1,93 @@
+-- The lines of the answers. Each ends with a line feed. A ground atom or a step is a bracket, a name, each argument after one
+-- space, and a bracket; numbers are plain decimal.
+use Rattle.std.specs.Prelude.{ℕ, ◌-◌, List, [], ◌∷◌, ◌++◌, length, map, codes, decimal, slice_index_or}
+use Rattle.std.specs.List.{flat_map}
+use Rattle.wp_syntax.specs.declared.error.Part.{Part}
+use Rattle.wp_syntax.specs.declared.error.Part.TheVariants.{Domain, Problem, Plan}
+use Rattle.wp_lift.specs.declared.atoms.GroundAtom.{GroundAtom}
+use Rattle.wp_lift.specs.declared.schemas.SlotCond.{SlotCond}
+use Rattle.wp_lift.specs.declared.schemas.SlotCond.TheVariants.{Atom, Same, Differ}
+use Rattle.wp_lift.specs.Problem.{Lifting, Instance, schema_at, pred_at}
+use Rattle.wp_lift.specs.Worlds.{grounded, object_in}
+use Rattle.wp_check.specs.declared.step.Step.{Step}
+use Rattle.wp_check.specs.declared.cause.Why.{Why}
+use Rattle.wp_check.specs.declared.cause.Why.TheVariants.{UnknownAction, Arguments, UnknownObject, Misfit, Condition}
+use Rattle.wp_check.specs.declared.cause.Verdict.{Verdict}
+use Rattle.wp_check.specs.declared.cause.Verdict.TheVariants.{Valid, Bad, GoalUnmet}
+use Rattle.wp_check.specs.Verdicts.{instance_of}
+
+abbrev pub line : List ℕ → List ℕ
+line text = text ++ 10 ∷ []
+
+abbrev pub part_text : Part → List ℕ
+part_text Domain = codes "domain"
+part_text Problem = codes "problem"
+part_text Plan = codes "plan"
+
+-- a name and its arguments in brackets
+abbrev pub form_text : List ℕ → List (List ℕ) → List ℕ
+form_text name args = 40 ∷ name ++ flat_map (λ (arg : List ℕ). 32 ∷ arg) args ++ 41 ∷ []
+
+abbrev pub object_text : Lifting → ℕ → List ℕ
+object_text lifted number = slice_index_or lifted.objects number []
+
+abbrev pub atom_text : Lifting → GroundAtom → List ℕ
+atom_text lifted atom = form_text (pred_at lifted atom.pred).name (map (object_text lifted) atom.args)
+
+abbrev pub equality_text : List ℕ → List ℕ → List ℕ
+equality_text first second = form_text (codes "=") (first ∷ second ∷ [])
+
+-- a condition of an instance
+abbrev pub literal_text : Lifting → List ℕ → SlotCond → List ℕ
+literal_text lifted args (Atom atom) = atom_text lifted (grounded args atom)
+literal_text lifted args (Same a b) = equality_text (object_text lifted (object_in args a)) (object_text lifted (object_in args b))
+literal_text lifted args (Differ a b) =
+    form_text (codes "not") (equality_text (object_text lifted (object_in args a)) (object_text lifted (object_in args b)) ∷ [])
+
+-- past the end of a list stands what never comes
+abbrev pub step_at : List Step → ℕ → Step
+step_at steps place = slice_index_or steps place (let none : Step = record { name = []; args = [] } in none)
+
+abbrev pub cond_at : Lifting → Instance → ℕ → SlotCond
+cond_at lifted step place =
+    slice_index_or (schema_at lifted step.schema).conds place (Atom (record { pred = 0; slots = [] }))
+
+abbrev pub goal_at : Lifting → ℕ → GroundAtom
+goal_at lifted place = slice_index_or lifted.goals place (let none : GroundAtom = record { pred = 0; args = [] } in none)
+
+abbrev pub arg_at : Step → ℕ → List ℕ
+arg_at step place = slice_index_or step.args place []
+
+unfoldable pub why_text : Lifting → Step → Why → List ℕ
+why_text lifted step UnknownAction = codes "unknown action " ++ step.name
+why_text lifted step (Arguments given wanted) = codes "arguments " ++ decimal given ++ codes " wanted " ++ decimal wanted
+why_text lifted step (UnknownObject place) = codes "unknown object " ++ arg_at step place
+why_text lifted step (Misfit place) = codes "type of " ++ arg_at step place
+why_text lifted step (Condition place) =
+    let one = instance_of lifted step in codes "condition " ++ literal_text lifted one.args (cond_at lifted one place)
+
+-- steps count from 1
+unfoldable pub verdict_text : Lifting → List Step → Verdict → List ℕ
+verdict_text lifted steps Valid = line (codes "; valid steps " ++ decimal (length steps))
+verdict_text lifted steps (Bad number why) =
+    line (codes "; invalid step " ++ decimal number ++ codes ": " ++ why_text lifted (step_at steps (number - 1)) why)
+verdict_text lifted steps (GoalUnmet place) = line (codes "; invalid goal " ++ atom_text lifted (goal_at lifted place))
+
+unfoldable pub too_long_text : Part → ℕ → List ℕ
+too_long_text part limit = line (codes "; limit: " ++ part_text part ++ codes " longer than " ++ decimal limit ++ codes " bytes")
+
+unfoldable pub read_fault_text : Part → List ℕ
+read_fault_text part = line (codes "; read fault: " ++ part_text part)
+
+-- Exact faults are not built yet: a text is refused by its part alone.
+unfoldable pub refusal_text : Part → List ℕ
+refusal_text part = line (codes "; refused: " ++ part_text part)
+
+unfoldable pub usage_text : List ℕ
+usage_text =
+    line (codes "; usage: plan DOMAIN PROBLEM [options]")
+    ++ line (codes ";        check DOMAIN PROBLEM PLAN")
+    ++ line (codes ";        ground DOMAIN PROBLEM")
+    ++ line (codes ";        gen NUMBER SIZE [options]")
+    ++ line (codes "; options: --search kbfws|f5 --width 1|2 --budget N --words N")
+    ++ line (codes ";          --workers N --ahead N --watch tally,trace,fronts --plain")

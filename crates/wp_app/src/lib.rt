@@ -1,0 +1,13 @@
+//! The top call: words and files in, bytes and a status out.
+//!
+//! `run_words` writes the text and answers the status that `specs/Output.antt` defines of the words and the files' bytes, as one
+//! function, step by step in the order of refusals. It names each fault of the outside by its cause, a count that rose.
+//!
+//! The whole text of an answer is made before its first byte is put; a step of the way either goes on with a value or ends with
+//! a reply. `wp_main` calls it with the real files and output, tests with those in memory.
+#![tactic(auto)]
+
+mod reply;
+mod words;
+
+pub use reply::{Reply, Status};

@@ -1,0 +1,41 @@
+//! What a run answers.
+
+use wp_edge::Text;
+
+/// How a run ended, as an exit status.
+#[derive(Clone, Copy, Debug, Drop, PartialEq, Eq)]
+pub enum Status {
+    /// A plan was found, or is valid, or a task was printed.
+    Done,
+    /// The plan that was to be checked is not valid.
+    InvalidPlan,
+    /// The words have no command.
+    Usage,
+    /// A text has a fault.
+    Refused,
+    /// A file or a task is larger than its limit.
+    Limit,
+    /// BFWS(f5) has no node left to expand: no plan exists.
+    NoPlan,
+    /// k-BFWS has no node left to expand, which says nothing of plans.
+    QueueEmpty,
+    /// As many nodes were expanded as were allowed.
+    Budget,
+    /// The novelty tables would have more words than were allowed.
+    Words,
+    /// A goal atom is not reached even without deletes: no plan exists.
+    OutOfReach,
+    /// A file could not be read.
+    ReadFault,
+    /// The output was not taken; it has a prefix of the text.
+    WriteFault,
+    /// Memory was refused; the output has nothing of the text.
+    Memory,
+}
+
+/// An answer: the whole text, and the status that comes with it.
+#[derive(Drop)]
+pub struct Reply {
+    pub text: Text,
+    pub status: Status,
+}
