@@ -1,3 +1,6 @@
 pub mod Problem
 pub mod Worlds
 pub mod Names
+pub mod Walk
+pub mod Typing
+pub mod Lifting

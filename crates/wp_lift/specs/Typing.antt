@@ -54,8 +54,8 @@ pairs_of types declared =
 -- the relation: a type is below itself, below `object`, and below what is above a type that it was declared with
 pub data IsSubtype (pairs : List (ℕ × ℕ)) : ℕ → ℕ → Type 0 where
   itself : (a : ℕ) → IsSubtype pairs a a
-  object : (a : ℕ) → IsSubtype pairs a 0
-  declared : (a b c : ℕ) → Contains pairs (a, b) → IsSubtype pairs b c → IsSubtype pairs a c
+  top : (a : ℕ) → IsSubtype pairs a 0
+  step : (a b c : ℕ) → Contains pairs (a, b) → IsSubtype pairs b c → IsSubtype pairs a c
 
 -- the same, computed: of one type, for each type whether it is above; it grows by the declared pairs, as often as there are types
 abbrev pub is_flagged : List Bool → ℕ → Bool

@@ -23,7 +23,7 @@ abbrev pub wrong : Part → PddlKind → ℕ → Walk (Unit {0})
 wrong part kind at = record { faults = record { part = part; kind = kind; at = at } ∷ []; value = tt }
 
 abbrev pub wrong_if : Bool → Part → PddlKind → ℕ → Walk (Unit {0})
-wrong_if yes part kind at = record { faults = (if yes then record { part = part; kind = kind; at = at } ∷ [] else []); value = tt }
+wrong_if found part kind at = record { faults = (if found then record { part = part; kind = kind; at = at } ∷ [] else []); value = tt }
 
 infixl 10 ◌>>=◌
 abbrev pub ◌>>=◌ : {A B : Type 0} → Walk A → (A → Walk B) → Walk B
