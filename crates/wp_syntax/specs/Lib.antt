@@ -1,0 +1,11 @@
+pub mod Word
+pub mod Heads
+pub mod Reading
+pub mod Grammar
+pub mod Effects
+pub mod Typing
+pub mod Predicates
+pub mod Actions
+pub mod Outline
+pub mod Domains
+pub mod Problems

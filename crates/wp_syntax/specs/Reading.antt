@@ -1,0 +1,74 @@
+-- Reading a tree: all faults in the order in which a walk from the left meets them, each list before its items, and a
+-- value. Reading goes on behind a fault, so a definition says nothing of stopping. Where there is a fault the value means nothing.
+use Rattle.std.specs.Prelude.{◌≡◌, ℕ, Bool, true, false, List, [], ◌∷◌, ◌++◌, Option, Some, None, Result, Ok, Err}
+use Rattle.wp_lex.specs.Trees.{Tree, Trees, Leaf, Branch, End, Then}
+use Rattle.wp_syntax.specs.declared.error.PddlKind.{PddlKind}
+use Rattle.wp_syntax.specs.declared.error.Ending.{Ending}
+use Rattle.wp_syntax.specs.declared.error.Ending.TheVariants as endings
+
+-- a fault
+pub record Wrong : Type 0 where
+  pub kind : PddlKind
+  pub at : ℕ
+
+pub record Read (A : Type 0) : Type 0 where
+  pub faults : List Wrong
+  pub value : A
+
+-- no fault
+abbrev pub fine : {A : Type 0} → A → Read A
+fine x = record { faults = []; value = x }
+
+abbrev pub wrong : PddlKind → ℕ → Read (Unit {0})
+wrong kind at = record { faults = record { kind = kind; at = at } ∷ []; value = tt }
+
+abbrev pub wrong_if : Bool → PddlKind → ℕ → Read (Unit {0})
+wrong_if true kind at = wrong kind at
+wrong_if false kind at = fine tt
+
+-- one reading after another, with the first one's value
+infixl 10 ◌>>=◌
+abbrev pub ◌>>=◌ : {A B : Type 0} → Read A → (A → Read B) → Read B
+r >>= f = let next = f r.value in record { faults = r.faults ++ next.faults; value = next.value }
+
+infixl 10 ◌>>◌
+abbrev pub ◌>>◌ : {B : Type 0} → Read (Unit {0}) → Read B → Read B
+r >> next = record { faults = r.faults ++ next.faults; value = next.value }
+
+-- each tree of a row in turn
+abbrev pub each : {A : Type 0} → (Tree → Read (List A)) → Trees → Read (List A)
+each one End = fine []
+each one (Then tree rest) = one tree >>= λ front. each one rest >>= λ back. fine (front ++ back)
+
+-- the same where a reading depends on what was read before it
+abbrev pub each_after : {A : Type 0} → (List A → Tree → Read (List A)) → List A → Trees → Read (List A)
+each_after one before End = fine before
+each_after one before (Then tree rest) = one before tree >>= λ new. each_after one (before ++ new) rest
+
+abbrev pub first : List Wrong → Option Wrong
+first [] = None
+first (fault ∷ faults) = Some fault
+
+-- An ending other than want of memory is the first fault.
+abbrev pub Fails : Ending → List Wrong → Type 0
+Fails endings.Memory faults = Unit {0}
+Fails (endings.Bad kind at) faults = first faults ≡ Some (record { kind = kind; at = at })
+
+-- the same with a list of values in front
+abbrev pub behind : {A : Type 0} → List A → Read (List A) → Read (List A)
+behind front r = record { faults = r.faults; value = front ++ r.value }
+
+-- A call returns the value of a reading, or how it fails.
+abbrev pub Gives : {A : Type 0} → Result A Ending → Read A → Type 0
+Gives (Ok x) read = read ≡ fine x
+Gives (Err e) read = Fails e read.faults
+
+-- A call appends the value to a list: old and new are the list before and after.
+abbrev pub Adds : {A U : Type 0} → Result U Ending → List A → List A → Read (List A) → Type 0
+Adds (Ok u) old new read = behind old read ≡ fine new
+Adds (Err e) old new read = Fails e read.faults
+
+-- A call changes a state to the value.
+abbrev pub Turns : {A U : Type 0} → Result U Ending → A → Read A → Type 0
+Turns (Ok u) new read = read ≡ fine new
+Turns (Err e) new read = Fails e read.faults

@@ -1,0 +1,23 @@
+//! PDDL's grammar: the records of a domain and of a problem, or the first fault.
+//!
+//! `read_domain` and `read_problem` go through the tree of a text from the left, each list before its items. Callers see a
+//! record that has every name with its place, or the first fault of that walk, by its kind and place. Both are defined over
+//! trees, one function for each rule of the grammar, as all faults in order beside a value (`specs/Reading.antt`); so
+//! the readers below are one function a rule as well, and stop at the first. `wp_lift` gives the records their meaning:
+//! which types, objects and predicates the names stand for is not asked here.
+#![tactic(auto)]
+
+mod action;
+mod domain;
+mod error;
+mod lists;
+mod problem;
+mod records;
+mod typing;
+mod word;
+
+pub use error::{Part, PddlError, PddlKind};
+pub use lists::{ActionTexts, AtomTexts, Conds, Effects, InitItems, Names, PredTexts, TypedList};
+pub use records::{
+    ActionText, AtomText, Cond, Domain, Effect, InitItem, Name, PredText, Problem, Typed,
+};
