@@ -1,0 +1,129 @@
+-- The output of words and files: one text and one status, or none where it comes to a file that is not there. It is the first of
+-- these that has an answer: words without a command; of the domain, then the problem, then the plan, a file that is too long, then
+-- a fault of its text; a fault of the names; the verdict.
+use Rattle.std.specs.Prelude.{ℕ, nat_lt, Bool, true, false, Option, None, Some, Result, Ok, Err, List, [], ◌∷◌, length}
+use Rattle.std.specs.FinMap.{get}
+use Rattle.wp_edge.specs.Fetch.{Contents}
+use Rattle.wp_lex.specs.declared.error.LexError.{LexError}
+use Rattle.wp_lex.specs.Trees.{trees_of}
+use Rattle.wp_lex.specs.Faults.{fault_of}
+use Rattle.wp_lex.specs.Items.{items_of}
+use Rattle.wp_syntax.specs.declared.error.Part.{Part}
+use Rattle.wp_syntax.specs.declared.error.Part.TheVariants as parts
+use Rattle.wp_syntax.specs.declared.records.Domain.{Domain}
+use Rattle.wp_syntax.specs.declared.records.Problem.{Problem}
+use Rattle.wp_syntax.specs.Reading.{Read, Wrong}
+use Rattle.wp_syntax.specs.Domains.{domain_of}
+use Rattle.wp_syntax.specs.Problems.{problem_of}
+use Rattle.wp_lift.specs.Problem.{Lifting}
+use Rattle.wp_lift.specs.Walk.{Walk, Fault}
+use Rattle.wp_lift.specs.Lifting.{lifting_of}
+use Rattle.wp_check.specs.declared.step.Step.{Step as PlanStep}
+use Rattle.wp_check.specs.declared.step.PlanError.{PlanError}
+use Rattle.wp_check.specs.declared.cause.Verdict.{Verdict}
+use Rattle.wp_check.specs.declared.cause.Verdict.TheVariants.{Valid, Bad, GoalUnmet}
+use Rattle.wp_check.specs.PlanFile.{plan_of}
+use Rattle.wp_check.specs.Verdicts.{verdict_of}
+use Rattle.wp_app.specs.declared.reply.Reply.{Reply}
+use Rattle.wp_app.specs.declared.reply.Status.{Status}
+use Rattle.wp_app.specs.declared.reply.Status.TheVariants as statuses
+use Rattle.wp_app.specs.declared.words.Command.{Command}
+use Rattle.wp_app.specs.declared.words.Command.TheVariants.{Check}
+use Rattle.wp_app.specs.Steps.{Step, missing, ends, goes, reply_of, ◌>>=◌}
+use Rattle.wp_app.specs.Words.{command_of}
+use Rattle.wp_app.specs.Texts.{usage_text, too_long_text, refusal_text, verdict_text}
+
+-- the most bytes that the file of a part may have
+abbrev pub limit_of : Part → ℕ
+limit_of parts.Domain = 4194304
+limit_of parts.Problem = 16777216
+limit_of parts.Plan = 16777216
+
+abbrev pub answered : {A : Type 0} → Status → List ℕ → Step A
+answered status text = ends (record { text = text; status = status })
+
+abbrev pub refused : {A : Type 0} → Part → Step A
+refused part = answered statuses.Refused (refusal_text part)
+
+unfoldable pub command_step : List (List ℕ) → Step Command
+command_step words = elim (command_of words) [ Some command ↦ goes command | None ↦ answered statuses.Usage usage_text ]
+
+-- the bytes of a part's file, where they are within its limit
+abbrev pub within : Part → Option (List ℕ) → Step (List ℕ)
+within part None = missing
+within part (Some bytes) = elim (nat_lt (limit_of part) (length bytes)) [
+  | true ↦ answered statuses.Limit (too_long_text part (limit_of part))
+  | false ↦ goes bytes
+]
+
+unfoldable pub part_of : Part → List ℕ → Contents → Step (List ℕ)
+part_of part name files = within part (get files name)
+
+-- the record of a text: its lexical fault comes before a fault of the grammar
+abbrev pub record_by : {A : Type 0} → Part → Option LexError → List Wrong → A → Step A
+record_by part (Some fault) faults value = refused part
+record_by part None (fault ∷ faults) value = refused part
+record_by part None [] value = goes value
+
+unfoldable pub domain_step : List ℕ → Step Domain
+domain_step text = let read = domain_of (trees_of (items_of text)) in record_by parts.Domain (fault_of text) read.faults read.value
+
+unfoldable pub problem_step : List ℕ → Step Problem
+problem_step text = let read = problem_of (trees_of (items_of text)) in record_by parts.Problem (fault_of text) read.faults read.value
+
+abbrev pub steps_by : Result (List PlanStep) PlanError → Step (List PlanStep)
+steps_by (Ok steps) = goes steps
+steps_by (Err error) = refused parts.Plan
+
+unfoldable pub plan_step : List ℕ → Step (List PlanStep)
+plan_step text = steps_by (plan_of text)
+
+-- the first fault of names is in the text of its part
+abbrev pub lifted_by : List Fault → Lifting → Step Lifting
+lifted_by [] value = goes value
+lifted_by (fault ∷ faults) value = refused fault.part
+
+unfoldable pub lifted_step : Domain → Problem → Step Lifting
+lifted_step domain problem = let walk = lifting_of domain problem in lifted_by walk.faults walk.value
+
+abbrev pub verdict_status : Verdict → Status
+verdict_status Valid = statuses.Done
+verdict_status (Bad step why) = statuses.InvalidPlan
+verdict_status (GoalUnmet place) = statuses.InvalidPlan
+
+unfoldable pub verdict_reply : Lifting → List PlanStep → Reply
+verdict_reply lifted steps =
+    let verdict = verdict_of lifted steps in record { text = verdict_text lifted steps verdict; status = verdict_status verdict }
+
+-- a domain and a problem, each read before the next file is fetched
+pub record Texts : Type 0 where
+  pub domain : Domain
+  pub problem : Problem
+
+unfoldable pub texts_step : List ℕ → List ℕ → Contents → Step Texts
+texts_step domain problem files = do
+  domain_text ← part_of parts.Domain domain files
+  domain_record ← domain_step domain_text
+  problem_text ← part_of parts.Problem problem files
+  problem_record ← problem_step problem_text
+  goes (record { domain = domain_record; problem = problem_record })
+
+unfoldable pub check_step : Texts → List ℕ → Contents → Step Reply
+check_step texts plan files = do
+  plan_text ← part_of parts.Plan plan files
+  steps ← plan_step plan_text
+  lifted ← lifted_step texts.domain texts.problem
+  goes (verdict_reply lifted steps)
+
+unfoldable pub run_step : Command → Contents → Step Reply
+run_step (Check domain problem plan) files = do
+  texts ← texts_step domain problem files
+  check_step texts plan files
+
+unfoldable pub steps_of : List (List ℕ) → Contents → Step Reply
+steps_of words files = do
+  command ← command_step words
+  run_step command files
+
+abbrev pub answer_of : List (List ℕ) → Contents → Option Reply
+answer_of words files = reply_of (steps_of words files)
