@@ -1,8 +1,11 @@
 -- The shelf and the sink in memory. Their calls are numbered from 1; those whose numbers are listed fail.
-use Rattle.std.specs.Prelude.{◌≡◌, ℕ, ◌-◌, Bool, ◌||◌, ◌==◌, nat_eq, List, ◌++◌, length, take, min, if◌then◌else◌}
+use Rattle.std.specs.Prelude.{◌≡◌, ℕ, ◌+◌, ◌-◌, ◌<◌, ◌≤◌, Bool, ◌||◌, ◌==◌, nat_eq, List, ◌++◌, length, take, min, if◌then◌else◌, Option, Some, None, Result, Ok, Err}
+use Rattle.std.specs.Global.{Vec}
 use Rattle.std.specs.List.{list_any}
 use Rattle.wp_edge.specs.Faults.{one_more}
 use Rattle.wp_edge.specs.declared.files.File.{File}
+use Rattle.wp_edge.specs.declared.shelf.FetchError.{FetchError}
+use Rattle.wp_edge.specs.declared.shelf.FetchError.TheVariants.{Failed, TooLong, Memory}
 
 abbrev pub is_listed : List ℕ → ℕ → Bool
 is_listed fails number = list_any (λ n. nat_eq n number) fails
@@ -50,3 +53,11 @@ put_once sink piece = record sink {
   calls = one_more sink.calls;
   faults = (if refuses_next sink then one_more sink.faults else sink.faults);
 }
+
+-- the bytes of a file, where it is there, within the limit and memory is not refused
+abbrev pub IsRead : Option (List ℕ) → ℕ → Result (Vec ℕ) FetchError → Type 0
+IsRead None limit result = result ≡ Err Failed
+IsRead (Some bytes) limit (Ok read) = (read.items ≡ bytes) × (length bytes ≤ limit)
+IsRead (Some bytes) limit (Err Failed) = ⊥
+IsRead (Some bytes) limit (Err (TooLong got)) = (got ≡ limit + 1) × (limit < length bytes)
+IsRead (Some bytes) limit (Err Memory) = Unit {0}

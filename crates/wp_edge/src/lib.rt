@@ -10,6 +10,8 @@ mod calls;
 pub mod files;
 pub mod gate;
 pub mod lists;
+pub mod mem_shelf;
+pub mod mem_sink;
 pub mod shelf;
 pub mod sink;
 
@@ -18,5 +20,7 @@ pub use gate::{Gate, JobName, OpenGate};
 pub use lists::numbers::Numbers;
 pub use lists::text::Text;
 pub use lists::texts::Texts;
+pub use mem_shelf::MemShelf;
+pub use mem_sink::MemSink;
 pub use shelf::{FetchError, Shelf};
 pub use sink::{Sink, SinkError};

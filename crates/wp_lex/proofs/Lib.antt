@@ -1,2 +1,5 @@
-pub mod Levels
 mod Rows
+pub mod Steps
+pub mod Levels
+pub mod Spelling
+pub mod Balance

@@ -1,5 +1,5 @@
 -- The definitions at small texts.
-use Rattle.std.proofs.Common.{◌≡◌, List, [], ◌∷◌, ◌++◌, None, Some, replicate, refl}
+use Rattle.std.proofs.Common.{◌≡◌, [], ◌∷◌, ◌++◌, None, Some, replicate, refl}
 use Rattle.std.specs.Prelude.{codes}
 use Rattle.wp_lex.specs.declared.error.LexError.TheVariants.{BadByte, Unopened, Unclosed, Trailing, TooDeep, Empty}
 use Rattle.wp_lex.specs.declared.item.Item.TheVariants.{Word, Open, Close}

@@ -2,9 +2,7 @@
 -- and closed before it; the end of the text comes after all places. The fault of the text is the one of least place.
 -- A PDDL text is one list. A plan file is any number of lists, and between them stand labels, as `0.001:`, and durations, as `[1]`.
 -- At most 64 lists stand open at once: that limit is ours.
-use Rattle.std.specs.Prelude.{
-    ℕ, ◌+◌, ◌-◌, ◌^◌, ◌≤◌, ◌<◌, ◌≡◌, ◌==◌, nat_le, Bool, true, false, not, ◌&&◌, ◌||◌, if◌then◌else◌, Option, None, Some,
-    List, [], ◌∷◌, length, map, take, drop, slice_index, count_by}
+use Rattle.std.specs.Prelude.{ℕ, ◌+◌, ◌-◌, ◌^◌, ◌≤◌, ◌<◌, ◌≡◌, ◌==◌, nat_le, Bool, false, not, ◌&&◌, ◌||◌, if◌then◌else◌, Option, None, Some, List, [], ◌∷◌, length, map, take, drop, slice_index, count_by}
 use Rattle.std.specs.Char.{is_ascii_digit}
 use Rattle.std.specs.List.{list_all, range_with_len}
 use Rattle.wp_lex.specs.declared.error.LexError.{LexError}
@@ -120,7 +118,7 @@ first_of (Some fault ∷ faults) last = Some fault
 abbrev pub fault_from : Source → List ℕ → ℕ → Option LexError
 fault_from source text i =
     first_of (map (fault_at source text) (range_with_len i (length text - i)))
-        (fault_at_end source (place_at text (length text)))
+    (fault_at_end source (place_at text (length text)))
 
 -- the fault of a PDDL text, and of a plan file
 abbrev pub fault_of : List ℕ → Option LexError

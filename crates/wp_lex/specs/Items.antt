@@ -1,6 +1,6 @@
 -- The items of a text: its brackets and words from the left, each with the place where it begins. The labels and durations
 -- between the lists of a plan file are left out.
-use Rattle.std.specs.Prelude.{ℕ, ◌||◌, if◌then◌else◌, Option, None, Some, List, length, drop, filter_map}
+use Rattle.std.specs.Prelude.{ℕ, if◌then◌else◌, Option, None, Some, List, length, drop, filter_map}
 use Rattle.std.specs.List.{range_with_len}
 use Rattle.wp_lex.specs.declared.place.Source.{Source}
 use Rattle.wp_lex.specs.declared.place.Source.TheVariants.{Pddl, Plan}

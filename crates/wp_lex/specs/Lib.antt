@@ -1,5 +1,6 @@
-pub mod Trees
-pub mod Node
 pub mod Words
 pub mod Faults
 pub mod Items
+pub mod Trees
+pub mod Node
+pub mod Lists

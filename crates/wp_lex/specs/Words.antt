@@ -2,8 +2,25 @@
 -- with A to Z turned into a to z. A comment runs from a semicolon to the next line feed (byte 10) or the end. Comments and
 -- letter case are PDDL's. All this is said of places in the whole text.
 use Rattle.std.specs.Prelude.{
-    ℕ, zero, suc, ◌+◌, ◌==◌, nat_le, Bool, true, false, not, ◌&&◌, ◌||◌, if◌then◌else◌,
-    List, take, take_while, reverse, slice_index}
+  ℕ,
+  zero,
+  suc,
+  ◌+◌,
+  ◌==◌,
+  nat_le,
+  Bool,
+  true,
+  false,
+  not,
+  ◌&&◌,
+  ◌||◌,
+  if◌then◌else◌,
+  List,
+  take,
+  take_while,
+  reverse,
+  slice_index,
+}
 use Rattle.std.specs.List.{list_any}
 use Rattle.std.specs.Str.{str_to_ascii_lowercase}
 use Rattle.wp_lex.specs.declared.place.Class.{Class}

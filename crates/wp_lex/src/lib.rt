@@ -9,11 +9,18 @@
 #![tactic(auto)]
 
 mod error;
+mod fault;
 mod item;
-mod node;
 mod label;
+mod laws;
+mod node;
 mod place;
+mod read;
+mod tree;
+mod word;
 
 pub use error::LexError;
 pub use item::{Item, Items};
+pub use laws::{lists_are_read, plans_are_lists, texts_are_lists};
 pub use node::{Node, next};
+pub use tree::{Tree, Trees, read_steps, read_tree};

@@ -1,6 +1,6 @@
 //! The kinds of text, the kinds of byte, and what stands before a place of a text.
 
-ghost use Rattle.std.specs.Prelude.{◌≡◌, ◌+◌, if◌then◌else◌};
+ghost use Rattle.std.specs.Prelude.{◌≡◌, [], ◌+◌, if◌then◌else◌};
 ghost use Rattle.wp_lex.specs.declared.place.Class.TheVariants.{Blank};
 ghost use Rattle.wp_lex.specs.Words.{class_of, is_letter, is_opening, is_closing};
 
@@ -50,7 +50,19 @@ pub struct Place {
 }
 
 impl Place {
-    ghost use Rattle.wp_lex.specs.Faults.{place_behind, depth_of, is_outside, IsCounted};
+    ghost use Rattle.wp_lex.specs.Faults.{place_at, place_behind, depth_of, is_outside, IsCounted};
+
+    /// The first place of a text.
+    pub fn start() -> Place
+        ensures { result ≡ place_at [] 0 }
+    {
+        Place {
+            at: 0,
+            continues: false,
+            opened: 0,
+            closed: 0,
+        }
+    }
 
     /// The place behind this one, at which a byte of the class stands.
     pub fn behind(self, class: Class) -> Place
@@ -96,7 +108,11 @@ pub fn class_of(byte: u8) -> Class
 pub fn class_in(commented: bool, byte: u8) -> Class
     ensures { result ≡ (if commented then Blank else class_of byte) }
 {
-    if commented { Class::Blank } else { class_of(byte) }
+    if commented {
+        Class::Blank
+    } else {
+        class_of(byte)
+    }
 }
 
 pub fn is_letter(class: Class) -> bool
