@@ -1,6 +1,6 @@
 -- What a lifted problem means, after Fox and Long, PDDL 2.1 (JAIR 2003), level 1: worlds, applicable instances, results,
 -- valid plans. A world is a set of ground atoms, here a test; it is closed: an atom that is not in it is false.
-use Rattle.std.specs.Prelude.{ℕ, nat_eq, nat_lt, ◌==◌, ◌&&◌, ◌||◌, not, Bool, true, false, List, [], ◌∷◌, length, map, filter, slice_index_or, if◌then◌else◌}
+use Rattle.std.specs.Prelude.{ℕ, nat_eq, nat_lt, ◌==◌, ◌&&◌, ◌||◌, not, Bool, true, false, List, [], ◌∷◌, ◌++◌, length, map, filter, slice_index_or, if◌then◌else◌}
 use Rattle.std.specs.List.{list_any, list_all}
 use Rattle.std.specs.Cmp.Lexicographic.{pointwise}
 use Rattle.wp_lift.specs.declared.atoms.GroundAtom.{GroundAtom}
@@ -21,6 +21,10 @@ is_same_atom a b = (a.pred == b.pred) && is_same_args a.args b.args
 -- the set of the listed atoms
 abbrev pub among : List GroundAtom → GroundAtom → Bool
 among atoms a = list_any (is_same_atom a) atoms
+
+-- the listed atoms with one more, where it is not there
+abbrev pub noted : List GroundAtom → GroundAtom → List GroundAtom
+noted atoms a = if among atoms a then atoms else atoms ++ a ∷ []
 
 -- the object that a term names in an instance
 abbrev pub object_in : List ℕ → Slot → ℕ

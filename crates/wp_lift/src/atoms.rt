@@ -1,7 +1,13 @@
 //! Ground atoms: a predicate's number with the numbers of objects.
 
-ghost use Rattle.std.specs.Prelude.{◌≡◌};
+ghost use Rattle.std.specs.Prelude.{◌≡◌, nat_eq};
+ghost use Rattle.std.specs.Cmp.Lexicographic.{pointwise, nat_list_eq_equiv};
+ghost use Rattle.std.specs.Cmp.{partial_equiv_from_equiv};
+ghost use Rattle.std.specs.Hash as fed;
+ghost use Rattle.std.specs.Cmp.Rules.{hashing};
+ghost use Rattle.std.proofs.Common.{rules};
 
+use std::hash::{Hash, Hasher};
 use std::marker::Model;
 
 /// The objects that an atom or an instance is of, by number, one for each place.
@@ -40,8 +46,32 @@ impl Args {
     }
 }
 
+impl PartialEq for Args {
+    ghost eq = { pointwise nat_eq };
+
+    ghost laws = { partial_equiv_from_equiv nat_list_eq_equiv };
+
+    fn eq(&self, other: &Args) -> bool {
+        self.items.as_slice() == other.items.as_slice()
+    }
+}
+
+impl Eq for Args {
+    ghost laws = { nat_list_eq_equiv };
+}
+
+impl Hash for Args {
+    ghost hash_input = { fed.slice fed.u32 };
+
+    ghost respects_eq = { Prim.search (hashing, rules) };
+
+    fn hash<H: Hasher>(&self, state: &mut H) {
+        self.items.as_slice().hash(state);
+    }
+}
+
 /// An atom without variables.
-#[derive(Drop)]
+#[derive(Drop, PartialEq, Eq, Hash)]
 pub struct GroundAtom {
     /// The number of its predicate.
     pub pred: u32,

@@ -10,8 +10,10 @@
 
 mod atoms;
 mod schemas;
+mod world;
 
 pub use atoms::{Args, GroundAtom, GroundAtoms};
 pub use schemas::{
     Pred, Preds, Schema, Schemas, Slot, SlotAtom, SlotCond, SlotConds, SlotEffect, SlotEffects, Slots,
 };
+pub use world::World;
