@@ -9,42 +9,42 @@ use Rattle.wp_check.specs.declared.step.Step.{Step}
 use Rattle.wp_check.specs.declared.step.PlanError.{PlanError}
 use Rattle.wp_check.specs.declared.step.PlanError.TheVariants.{Lex, Shape, Memory}
 
--- the words of a list, up to the first list in it, and the place of that list
-pub record Row : Type 0 where
-  pub words : List (List ℕ)
-  pub list : Option ℕ
+-- one more in front, where all are there; else the first fault, from the left
+abbrev pub with_first : {A : Type 0} → Result A ℕ → Result (List A) ℕ → Result (List A) ℕ
+with_first (Err at) rest = Err at
+with_first (Ok x) (Err at) = Err at
+with_first (Ok x) (Ok xs) = Ok (x ∷ xs)
 
-abbrev pub row_of : Trees → Row
-row_of End = record { words = []; list = None }
-row_of (Then (Leaf text at) rest) = let row = row_of rest in record { words = text ∷ row.words; list = row.list }
-row_of (Then (Branch at trees) rest) = record { words = []; list = Some at }
+-- the words of a list, or the place of the first list in it
+abbrev pub word_of : Tree → Result (List ℕ) ℕ
+word_of (Leaf text at) = Ok text
+word_of (Branch at trees) = Err at
 
--- a step of a row, or the place of what makes it none
-abbrev pub step_by : ℕ → List (List ℕ) → Option ℕ → Result Step ℕ
-step_by at words (Some list) = Err list
-step_by at [] None = Err at
-step_by at (name ∷ args) None = Ok (record { name = name; args = args })
+abbrev pub words_of : Trees → Result (List (List ℕ)) ℕ
+words_of End = Ok []
+words_of (Then tree rest) = with_first (word_of tree) (words_of rest)
+
+-- a step of the words of the list at a place
+abbrev pub step_with : ℕ → Result (List (List ℕ)) ℕ → Result Step ℕ
+step_with at (Err list) = Err list
+step_with at (Ok []) = Err at
+step_with at (Ok (name ∷ args)) = Ok (record { name = name; args = args })
 
 -- between the lists of a plan file no word is left that counts
 abbrev pub step_of : Tree → Result Step ℕ
 step_of (Leaf text at) = Err at
-step_of (Branch at trees) = let row = row_of trees in step_by at row.words row.list
+step_of (Branch at trees) = step_with at (words_of trees)
 
 -- the steps, or the place of the first fault
-abbrev pub with_step : Result Step ℕ → Result (List Step) ℕ → Result (List Step) ℕ
-with_step (Err at) steps = Err at
-with_step (Ok step) (Err at) = Err at
-with_step (Ok step) (Ok steps) = Ok (step ∷ steps)
-
 abbrev pub steps_of : Trees → Result (List Step) ℕ
 steps_of End = Ok []
-steps_of (Then tree rest) = with_step (step_of tree) (steps_of rest)
+steps_of (Then tree rest) = with_first (step_of tree) (steps_of rest)
 
--- of a plan file: the steps, or the first lexical fault, or else the first place of a step that is none
-abbrev pub shaped : Result (List Step) ℕ → Result (List Step) PlanError
-shaped (Ok steps) = Ok steps
+abbrev pub shaped : {A : Type 0} → Result A ℕ → Result A PlanError
+shaped (Ok x) = Ok x
 shaped (Err at) = Err (Shape at)
 
+-- of a plan file: the steps, or the first lexical fault, or else the first place of a step that is none
 abbrev pub plan_by : Option LexError → Result (List Step) ℕ → Result (List Step) PlanError
 plan_by (Some fault) steps = Err (Lex fault)
 plan_by None steps = shaped steps
@@ -52,7 +52,11 @@ plan_by None steps = shaped steps
 unfoldable pub plan_of : List ℕ → Result (List Step) PlanError
 plan_of text = plan_by (plan_fault_of text) (steps_of (trees_of (plan_items_of text)))
 
--- want of memory, or the fault that there is
-abbrev pub Fails : PlanError → Result (List Step) PlanError → Type 0
+-- what is returned is what reading gives; an error is want of memory, or the fault that there is
+abbrev pub Fails : {A : Type 0} → PlanError → Result A PlanError → Type 0
 Fails Memory plan = Unit {0}
 Fails error plan = plan ≡ Err error
+
+abbrev pub Gives : {A : Type 0} → Result A PlanError → Result A PlanError → Type 0
+Gives (Ok x) plan = plan ≡ Ok x
+Gives (Err error) plan = Fails error plan

@@ -6,7 +6,9 @@
 #![tactic(auto)]
 
 mod cause;
+mod reading;
 mod step;
 
 pub use cause::{Verdict, Why};
+pub use reading::read_plan;
 pub use step::{PlanError, Step, Steps};

@@ -2,6 +2,7 @@
 
 ghost use Rattle.std.specs.Prelude.{◌≡◌};
 
+use std::alloc::{AllocError, AllocFailed};
 use std::marker::Model;
 use thiserror::Error;
 use wp_edge::{Text, Texts};
@@ -65,4 +66,24 @@ pub enum PlanError {
     /// Want of memory; it says nothing of the text.
     #[error("out of memory")]
     Memory,
+}
+
+impl From<AllocError> for PlanError {
+    ghost use Rattle.wp_check.specs.declared.step.PlanError.TheVariants.{Memory};
+
+    ghost from_gives = { λ _ e. e ≡ Memory };
+
+    fn from(_error: AllocError) -> PlanError {
+        PlanError::Memory
+    }
+}
+
+impl<T: Drop> From<AllocFailed<T>> for PlanError {
+    ghost use Rattle.wp_check.specs.declared.step.PlanError.TheVariants.{Memory};
+
+    ghost from_gives = { λ _ e. e ≡ Memory };
+
+    fn from(_error: AllocFailed<T>) -> PlanError {
+        PlanError::Memory
+    }
 }
