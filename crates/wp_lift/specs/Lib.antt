@@ -4,3 +4,4 @@ pub mod Names
 pub mod Walk
 pub mod Typing
 pub mod Lifting
+pub mod Numbering

@@ -9,6 +9,7 @@
 #![tactic(auto)]
 
 mod atoms;
+mod names;
 mod schemas;
 mod world;
 

@@ -1,6 +1,7 @@
-ghost use Rattle.std.specs.Prelude.{◌≡◌};
+ghost use Rattle.std.specs.Prelude.{◌≡◌, [], ◌∷◌, ◌++◌, OnErr, OnOk};
 
 use crate::lists::text::Text;
+use std::alloc::AllocError;
 use std::marker::Model;
 
 /// A list of texts.
@@ -30,6 +31,15 @@ impl Texts {
     {
         let Texts { items } = self;
         items
+    }
+
+    /// Adds a text at the end; want of memory drops it, and the list is as before.
+    pub fn push(&mut self, text: Text) -> Result<(), AllocError>
+        ensures ok { OnOk result (self.new ≡ self.old ++ text ∷ []) }
+        ensures err { OnErr result (self.new ≡ self.old) }
+    {
+        self.items.push(text)?;
+        Ok(())
     }
 
     pub fn as_slice(&self) -> &[Text]
