@@ -1,1 +1,6 @@
+pub mod FetchLemmas
+pub mod PutLemmas
+pub mod ReplyLemmas
+pub mod StepLemmas
 mod Rows
+pub mod ReadLemmas

@@ -5,7 +5,7 @@ use Rattle.wp_app.specs.declared.reply.Status.{Status}
 use Rattle.wp_app.specs.declared.reply.Status.TheVariants.{Done, InvalidPlan, Refused}
 use Rattle.wp_app.specs.Steps.{Step, missing, ends, goes, ◌>>=◌}
 use Rattle.wp_app.specs.Texts.{verdict_text, why_text, refusal_text}
-use Rattle.wp_app.specs.Output.{domain_step, problem_step, plan_step, lifted_step, verdict_reply}
+use Rattle.wp_app.specs.Output.{domain_step, problem_step, items_step, domain_in, problem_in, plan_step, lifted_step, verdict_reply}
 use Rattle.wp_lift.specs.Lifting.{lifting_of, schema_of, cond_of, effect_of, atom_of, slot_of, objects_of, object_of, ground_atom_of, stated_after}
 use Rattle.wp_lift.specs.Typing.{types_of, subtypes_of}
 use Rattle.wp_check.specs.PlanFile.{plan_of}
@@ -32,39 +32,25 @@ abbrev check_chain : List ℕ → Step Reply
 check_chain plan = checked chain problem plan
 
 labelled : check_chain (codes "0: (s1) [1]\n0.001: (s2) [1]\n") ≡ says Done (codes "; valid steps " ++ decimal 2)
-unfolding checked domain_step problem_step plan_step lifted_step verdict_reply lifting_of schema_of cond_of effect_of atom_of slot_of objects_of object_of ground_atom_of stated_after types_of subtypes_of plan_of verdict_of verdict_text why_text
+unfolding checked domain_step problem_step items_step domain_in problem_in plan_step lifted_step verdict_reply lifting_of schema_of cond_of effect_of atom_of slot_of objects_of object_of ground_atom_of stated_after types_of subtypes_of plan_of verdict_of verdict_text why_text
 labelled = refl
 
 deleted : check_chain (codes "(s1)(s2)(s1)") ≡ says InvalidPlan (codes "; invalid step " ++ decimal 3 ++ codes ": " ++ codes "condition (a)")
-unfolding checked domain_step problem_step plan_step lifted_step verdict_reply lifting_of schema_of cond_of effect_of atom_of slot_of objects_of object_of ground_atom_of stated_after types_of subtypes_of plan_of verdict_of verdict_text why_text
+unfolding checked domain_step problem_step items_step domain_in problem_in plan_step lifted_step verdict_reply lifting_of schema_of cond_of effect_of atom_of slot_of objects_of object_of ground_atom_of stated_after types_of subtypes_of plan_of verdict_of verdict_text why_text
 deleted = refl
 
 empty_plan : check_chain [] ≡ says InvalidPlan (codes "; invalid goal (c)")
-unfolding checked domain_step problem_step plan_step lifted_step verdict_reply lifting_of schema_of cond_of effect_of atom_of slot_of objects_of object_of ground_atom_of stated_after types_of subtypes_of plan_of verdict_of verdict_text why_text
+unfolding checked domain_step problem_step items_step domain_in problem_in plan_step lifted_step verdict_reply lifting_of schema_of cond_of effect_of atom_of slot_of objects_of object_of ground_atom_of stated_after types_of subtypes_of plan_of verdict_of verdict_text why_text
 empty_plan = refl
 
 argument : check_chain (codes "(s1 x)") ≡ says InvalidPlan (codes "; invalid step " ++ decimal 1 ++ codes ": " ++ (codes "arguments " ++ decimal 1 ++ codes " wanted " ++ decimal 0))
-unfolding checked domain_step problem_step plan_step lifted_step verdict_reply lifting_of schema_of cond_of effect_of atom_of slot_of objects_of object_of ground_atom_of stated_after types_of subtypes_of plan_of verdict_of verdict_text why_text
+unfolding checked domain_step problem_step items_step domain_in problem_in plan_step lifted_step verdict_reply lifting_of schema_of cond_of effect_of atom_of slot_of objects_of object_of ground_atom_of stated_after types_of subtypes_of plan_of verdict_of verdict_text why_text
 argument = refl
 
 unknown : check_chain (codes "(go)") ≡ says InvalidPlan (codes "; invalid step " ++ decimal 1 ++ codes ": " ++ codes "unknown action go")
-unfolding checked domain_step problem_step plan_step lifted_step verdict_reply lifting_of schema_of cond_of effect_of atom_of slot_of objects_of object_of ground_atom_of stated_after types_of subtypes_of plan_of verdict_of verdict_text why_text
+unfolding checked domain_step problem_step items_step domain_in problem_in plan_step lifted_step verdict_reply lifting_of schema_of cond_of effect_of atom_of slot_of objects_of object_of ground_atom_of stated_after types_of subtypes_of plan_of verdict_of verdict_text why_text
 unknown = refl
 
 list_in_step : check_chain (codes "((s1))") ≡ ends (record { text = codes "; refused: plan\n"; status = Refused })
-unfolding checked domain_step problem_step plan_step lifted_step verdict_reply lifting_of schema_of cond_of effect_of atom_of slot_of objects_of object_of ground_atom_of stated_after types_of subtypes_of plan_of verdict_of verdict_text why_text refusal_text
+unfolding checked domain_step problem_step items_step domain_in problem_in plan_step lifted_step verdict_reply lifting_of schema_of cond_of effect_of atom_of slot_of objects_of object_of ground_atom_of stated_after types_of subtypes_of plan_of verdict_of verdict_text why_text refusal_text
 list_in_step = refl
-
-abbrev typed : List ℕ
-typed = codes "(DEFINE (DOMAIN Move)\n (:requirements :strips :typing)\n (:types truck plane - vehicle place)\n (:constants Hub - place)\n (:predicates (at ?v - vehicle ?p - place) (road ?a ?b - place))\n (:action GO :parameters (?v - (either truck plane) ?a ?b - place)\n  :precondition (and (at ?v ?a) (road ?a ?b))\n  :effect (and (not (at ?v ?a)) (at ?v ?b))))"
-
-abbrev typed_problem : List ℕ
-typed_problem = codes "(define (problem p) (:domain move)\n (:objects T1 - truck A - place T1 - plane)\n (:init (at t1 a) (ROAD a hub))\n (:goal (at t1 hub)))"
-
-typed_valid : checked typed typed_problem (codes "(GO t1 a HUB)") ≡ says Done (codes "; valid steps " ++ decimal 1)
-unfolding checked domain_step problem_step plan_step lifted_step verdict_reply lifting_of schema_of cond_of effect_of atom_of slot_of objects_of object_of ground_atom_of stated_after types_of subtypes_of plan_of verdict_of verdict_text why_text
-typed_valid = refl
-
-typed_misfit : checked typed typed_problem (codes "(go a a hub)") ≡ says InvalidPlan (codes "; invalid step " ++ decimal 1 ++ codes ": " ++ codes "type of a")
-unfolding checked domain_step problem_step plan_step lifted_step verdict_reply lifting_of schema_of cond_of effect_of atom_of slot_of objects_of object_of ground_atom_of stated_after types_of subtypes_of plan_of verdict_of verdict_text why_text
-typed_misfit = refl

@@ -1,4 +1,9 @@
 pub mod Steps
 pub mod Words
+pub mod Names
 pub mod Texts
 pub mod Output
+pub mod Statuses
+pub mod Stops
+pub mod Puts
+pub mod Headline

@@ -5,6 +5,7 @@ use Rattle.std.specs.Prelude.{ℕ, nat_lt, Bool, true, false, Option, None, Some
 use Rattle.std.specs.FinMap.{get}
 use Rattle.wp_edge.specs.Fetch.{Contents}
 use Rattle.wp_lex.specs.declared.error.LexError.{LexError}
+use Rattle.wp_lex.specs.declared.item.Item.{Item}
 use Rattle.wp_lex.specs.Trees.{trees_of}
 use Rattle.wp_lex.specs.Faults.{fault_of}
 use Rattle.wp_lex.specs.Items.{items_of}
@@ -12,11 +13,12 @@ use Rattle.wp_syntax.specs.declared.error.Part.{Part}
 use Rattle.wp_syntax.specs.declared.error.Part.TheVariants as parts
 use Rattle.wp_syntax.specs.declared.records.Domain.{Domain}
 use Rattle.wp_syntax.specs.declared.records.Problem.{Problem}
-use Rattle.wp_syntax.specs.Reading.{Read, Wrong}
+use Rattle.wp_syntax.specs.Reading.{Wrong}
 use Rattle.wp_syntax.specs.Domains.{domain_of}
 use Rattle.wp_syntax.specs.Problems.{problem_of}
+use Rattle.wp_syntax.specs.Unbuilt.{domain_unbuilt, problem_unbuilt}
 use Rattle.wp_lift.specs.Problem.{Lifting}
-use Rattle.wp_lift.specs.Walk.{Walk, Fault}
+use Rattle.wp_lift.specs.Walk.{Fault}
 use Rattle.wp_lift.specs.Lifting.{lifting_of}
 use Rattle.wp_check.specs.declared.step.Step.{Step as PlanStep}
 use Rattle.wp_check.specs.declared.step.PlanError.{PlanError}
@@ -27,6 +29,7 @@ use Rattle.wp_check.specs.Verdicts.{verdict_of}
 use Rattle.wp_app.specs.declared.reply.Reply.{Reply}
 use Rattle.wp_app.specs.declared.reply.Status.{Status}
 use Rattle.wp_app.specs.declared.reply.Status.TheVariants as statuses
+use Rattle.wp_app.specs.declared.check.Texts.{Texts}
 use Rattle.wp_app.specs.declared.words.Command.{Command}
 use Rattle.wp_app.specs.declared.words.Command.TheVariants.{Check}
 use Rattle.wp_app.specs.Steps.{Step, missing, ends, goes, reply_of, ◌>>=◌}
@@ -59,17 +62,39 @@ within part (Some bytes) = elim (nat_lt (limit_of part) (length bytes)) [
 unfoldable pub part_of : Part → List ℕ → Contents → Step (List ℕ)
 part_of part name files = within part (get files name)
 
--- the record of a text: its lexical fault comes before a fault of the grammar
-abbrev pub record_by : {A : Type 0} → Part → Option LexError → List Wrong → A → Step A
-record_by part (Some fault) faults value = refused part
-record_by part None (fault ∷ faults) value = refused part
-record_by part None [] value = goes value
+-- Forms of the grammar that are not built yet are refused, where a text has no fault.
+abbrev pub if_built : {A : Type 0} → Part → Bool → A → Step A
+if_built part true value = refused part
+if_built part false value = goes value
+
+-- the record of a list, where it has one
+abbrev pub record_by : {A : Type 0} → Part → List Wrong → Bool → A → Step A
+record_by part (fault ∷ faults) unbuilt value = refused part
+record_by part [] unbuilt value = if_built part unbuilt value
+
+-- the items of a text without a lexical fault
+abbrev pub items_by : Part → Option LexError → List Item → Step (List Item)
+items_by part (Some fault) items = refused part
+items_by part None items = goes items
+
+unfoldable pub items_step : Part → List ℕ → Step (List Item)
+items_step part text = items_by part (fault_of text) (items_of text)
+
+unfoldable pub domain_in : List Item → Step Domain
+domain_in items = let trees = trees_of items in let read = domain_of trees in record_by parts.Domain read.faults (domain_unbuilt trees) read.value
+
+unfoldable pub problem_in : List Item → Step Problem
+problem_in items = let trees = trees_of items in let read = problem_of trees in record_by parts.Problem read.faults (problem_unbuilt trees) read.value
 
 unfoldable pub domain_step : List ℕ → Step Domain
-domain_step text = let read = domain_of (trees_of (items_of text)) in record_by parts.Domain (fault_of text) read.faults read.value
+domain_step text = do
+  items ← items_step parts.Domain text
+  domain_in items
 
 unfoldable pub problem_step : List ℕ → Step Problem
-problem_step text = let read = problem_of (trees_of (items_of text)) in record_by parts.Problem (fault_of text) read.faults read.value
+problem_step text = do
+  items ← items_step parts.Problem text
+  problem_in items
 
 abbrev pub steps_by : Result (List PlanStep) PlanError → Step (List PlanStep)
 steps_by (Ok steps) = goes steps
@@ -96,10 +121,6 @@ verdict_reply lifted steps =
     let verdict = verdict_of lifted steps in record { text = verdict_text lifted steps verdict; status = verdict_status verdict }
 
 -- a domain and a problem, each read before the next file is fetched
-pub record Texts : Type 0 where
-  pub domain : Domain
-  pub problem : Problem
-
 unfoldable pub texts_step : List ℕ → List ℕ → Contents → Step Texts
 texts_step domain problem files = do
   domain_text ← part_of parts.Domain domain files
@@ -108,12 +129,16 @@ texts_step domain problem files = do
   problem_record ← problem_step problem_text
   goes (record { domain = domain_record; problem = problem_record })
 
+unfoldable pub judged_step : Texts → List PlanStep → Step Reply
+judged_step texts steps = do
+  lifted ← lifted_step texts.domain texts.problem
+  goes (verdict_reply lifted steps)
+
 unfoldable pub check_step : Texts → List ℕ → Contents → Step Reply
 check_step texts plan files = do
   plan_text ← part_of parts.Plan plan files
   steps ← plan_step plan_text
-  lifted ← lifted_step texts.domain texts.problem
-  goes (verdict_reply lifted steps)
+  judged_step texts steps
 
 unfoldable pub run_step : Command → Contents → Step Reply
 run_step (Check domain problem plan) files = do

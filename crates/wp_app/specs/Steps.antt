@@ -3,9 +3,9 @@ use Rattle.std.specs.Prelude.{Option, None, Some}
 use Rattle.wp_app.specs.declared.reply.Reply.{Reply}
 
 pub data Step (A : Type 0) : Type 0 where
-  missing : Step A            -- a file is not there, and nothing is answered
-  ends : Reply → Step A       -- this is the reply
-  goes : A → Step A           -- no reply yet
+  missing : Step A  -- a file is not there, and nothing is answered
+  ends : Reply → Step A  -- this is the reply
+  goes : A → Step A  -- no reply yet
 
 infixl 10 ◌>>=◌
 abbrev pub ◌>>=◌ : {A B : Type 0} → Step A → (A → Step B) → Step B

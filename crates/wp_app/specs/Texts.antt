@@ -5,6 +5,7 @@ use Rattle.std.specs.List.{flat_map}
 use Rattle.wp_syntax.specs.declared.error.Part.{Part}
 use Rattle.wp_syntax.specs.declared.error.Part.TheVariants.{Domain, Problem, Plan}
 use Rattle.wp_lift.specs.declared.atoms.GroundAtom.{GroundAtom}
+use Rattle.wp_lift.specs.declared.schemas.Schema.{Schema}
 use Rattle.wp_lift.specs.declared.schemas.SlotCond.{SlotCond}
 use Rattle.wp_lift.specs.declared.schemas.SlotCond.TheVariants.{Atom, Same, Differ}
 use Rattle.wp_lift.specs.Problem.{Lifting, Instance, schema_at, pred_at}
@@ -34,19 +35,22 @@ object_text lifted number = slice_index_or lifted.objects number []
 abbrev pub atom_text : Lifting → GroundAtom → List ℕ
 atom_text lifted atom = form_text (pred_at lifted atom.pred).name (map (object_text lifted) atom.args)
 
-abbrev pub equality_text : List ℕ → List ℕ → List ℕ
-equality_text first second = form_text (codes "=") (first ∷ second ∷ [])
+abbrev pub equality_text : Lifting → ℕ → ℕ → List ℕ
+equality_text lifted a b = codes "(= " ++ object_text lifted a ++ codes " " ++ object_text lifted b ++ codes ")"
 
 -- a condition of an instance
 abbrev pub literal_text : Lifting → List ℕ → SlotCond → List ℕ
 literal_text lifted args (Atom atom) = atom_text lifted (grounded args atom)
-literal_text lifted args (Same a b) = equality_text (object_text lifted (object_in args a)) (object_text lifted (object_in args b))
+literal_text lifted args (Same a b) = equality_text lifted (object_in args a) (object_in args b)
 literal_text lifted args (Differ a b) =
-    form_text (codes "not") (equality_text (object_text lifted (object_in args a)) (object_text lifted (object_in args b)) ∷ [])
+    codes "(not " ++ equality_text lifted (object_in args a) (object_in args b) ++ codes ")"
 
 -- past the end of a list stands what never comes
 abbrev pub step_at : List Step → ℕ → Step
 step_at steps place = slice_index_or steps place (let none : Step = record { name = []; args = [] } in none)
+
+abbrev pub no_schema : Schema
+no_schema = record { name = []; arity = 0; conds = []; effects = [] }
 
 abbrev pub cond_at : Lifting → Instance → ℕ → SlotCond
 cond_at lifted step place =

@@ -7,7 +7,17 @@
 //! a reply. `wp_main` calls it with the real files and output, tests with those in memory.
 #![tactic(auto)]
 
+mod atom_text;
+mod check;
+mod fetch;
+mod put;
+mod readers;
 mod reply;
+mod run;
+mod stop;
+mod texts;
+mod verdict_text;
 mod words;
 
 pub use reply::{Reply, Status};
+pub use run::run_words;

@@ -1,9 +1,11 @@
 //! What a run answers.
 
+ghost use Rattle.std.specs.Prelude.{◌≡◌};
+
 use wp_edge::Text;
 
 /// How a run ended, as an exit status.
-#[derive(Clone, Copy, Debug, Drop, PartialEq, Eq)]
+#[derive(Clone, Copy, Debug, PartialEq, Eq)]
 pub enum Status {
     /// A plan was found, or is valid, or a task was printed.
     Done,
@@ -31,6 +33,31 @@ pub enum Status {
     WriteFault,
     /// Memory was refused; the output has nothing of the text.
     Memory,
+}
+
+impl Status {
+    ghost use Rattle.wp_app.specs.Statuses.{code_of};
+
+    /// The exit code of the program.
+    pub fn code(&self) -> u8
+        ensures { result ≡ code_of self.now }
+    {
+        match self {
+            Status::Done => 0,
+            Status::InvalidPlan => 1,
+            Status::Usage => 2,
+            Status::Refused => 3,
+            Status::Limit => 4,
+            Status::NoPlan => 10,
+            Status::QueueEmpty => 11,
+            Status::Budget => 12,
+            Status::Words => 13,
+            Status::OutOfReach => 14,
+            Status::ReadFault => 20,
+            Status::WriteFault => 21,
+            Status::Memory => 30,
+        }
+    }
 }
 
 /// An answer: the whole text, and the status that comes with it.

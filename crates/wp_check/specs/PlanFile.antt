@@ -1,6 +1,6 @@
 -- The steps of a plan file. Each of its lists is a step: a name and the words after it. A list is no step where it is empty
 -- or has a list in it; the fault is the place of the empty list or of the first list in the step, of the first such step.
-use Rattle.std.specs.Prelude.{ℕ, ◌≡◌, Option, None, Some, List, [], ◌∷◌, Result, Ok, Err}
+use Rattle.std.specs.Prelude.{ℕ, ◌≡◌, ◌^◌, ◌<◌, length, All, Option, None, Some, List, [], ◌∷◌, Result, Ok, Err}
 use Rattle.wp_lex.specs.declared.error.LexError.{LexError}
 use Rattle.wp_lex.specs.Trees.{Tree, Leaf, Branch, Trees, End, Then, trees_of}
 use Rattle.wp_lex.specs.Faults.{plan_fault_of}
@@ -60,3 +60,8 @@ Fails error plan = plan ≡ Err error
 abbrev pub Gives : {A : Type 0} → Result A PlanError → Result A PlanError → Type 0
 Gives (Ok x) plan = plan ≡ Ok x
 Gives (Err error) plan = Fails error plan
+
+-- places and numbers of steps and of their arguments fit into 32 bits
+pub record AreShort (steps : List Step) : Type 0 where
+  pub few : length steps < 2 ^ 32
+  pub each : All (λ (step : Step). length step.args < 2 ^ 32) steps

@@ -1,5 +1,7 @@
 //! What is said of a plan.
 
+use std::alloc::{AllocError, AllocFailed};
+
 /// Why a step is bad. Places count from 0.
 #[derive(Drop)]
 pub enum Why {
@@ -29,4 +31,33 @@ pub enum Verdict {
 
     /// All steps apply, and the goal atom at this place does not hold after them.
     GoalUnmet { place: u32 },
+}
+
+/// What stops a step of a plan.
+#[derive(Drop)]
+pub enum Stop {
+    Bad { why: Why },
+    Memory,
+}
+
+impl From<AllocError> for Stop {
+    ghost use Rattle.std.specs.Prelude.{◌≡◌};
+    ghost use Rattle.wp_check.specs.declared.cause.Stop.TheVariants.{Memory};
+
+    ghost from_gives = { λ _ e. e ≡ Memory };
+
+    fn from(_error: AllocError) -> Stop {
+        Stop::Memory
+    }
+}
+
+impl<T: Drop> From<AllocFailed<T>> for Stop {
+    ghost use Rattle.std.specs.Prelude.{◌≡◌};
+    ghost use Rattle.wp_check.specs.declared.cause.Stop.TheVariants.{Memory};
+
+    ghost from_gives = { λ _ e. e ≡ Memory };
+
+    fn from(_error: AllocFailed<T>) -> Stop {
+        Stop::Memory
+    }
 }

@@ -6,9 +6,11 @@
 #![tactic(auto)]
 
 mod cause;
+mod judging;
 mod reading;
 mod step;
 
 pub use cause::{Verdict, Why};
+pub use judging::verdict;
 pub use reading::read_plan;
 pub use step::{PlanError, Step, Steps};

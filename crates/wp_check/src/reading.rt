@@ -1,7 +1,7 @@
 //! The steps of a plan file.
 
-ghost use Rattle.std.specs.Prelude.{◌≡◌, ◌≢◌, Ok, IfErr};
-ghost use Rattle.wp_check.specs.PlanFile.{Gives, plan_of, shaped, steps_of, step_of, step_with, word_of, words_of};
+ghost use Rattle.std.specs.Prelude.{◌≡◌, ◌≢◌, ◌^◌, ◌<◌, length, Ok, IfOk};
+ghost use Rattle.wp_check.specs.PlanFile.{AreShort, Gives, plan_of, shaped, steps_of, step_of, step_with, word_of, words_of};
 ghost use Rattle.wp_lex.specs.Node.{tree_of};
 ghost use Rattle.wp_lex.specs.Trees.{trees_of};
 ghost use Rattle.wp_lex.specs.declared.error.LexError.TheVariants as faults;
@@ -16,6 +16,7 @@ use wp_lex::{Item, LexError, Node, next, read_steps};
 pub fn read_plan(alloc: Global, bytes: &[u8]) -> Result<Steps, PlanError>
     ensures plan { Gives result (plan_of bytes.now) }
     ensures lexical { result ≢ Err (PlanError.Lex faults.Memory) }
+    ensures short { IfOk result AreShort }
 {
     let trees = match read_steps(alloc, bytes) {
         Ok(trees) => trees,
@@ -27,7 +28,8 @@ pub fn read_plan(alloc: Global, bytes: &[u8]) -> Result<Steps, PlanError>
 
 // A step for each list of the items.
 fn steps_in(alloc: Global, items: &[Item]) -> Result<Steps, PlanError>
-    ensures { Gives result (shaped (steps_of (trees_of items.now))) }
+    ensures steps { Gives result (shaped (steps_of (trees_of items.now))) }
+    ensures short { IfOk result AreShort }
 {
     let mut steps = Vec::new(alloc);
     let mut rest = items;
@@ -35,11 +37,15 @@ fn steps_in(alloc: Global, items: &[Item]) -> Result<Steps, PlanError>
         steps.push(step_in(alloc, node)?)?;
         rest = after;
     }
+    if steps.len() > u32::MAX as usize {
+        return Err(PlanError::Memory);
+    }
     Ok(Steps::of_vec(steps))
 }
 
 fn step_in(alloc: Global, node: Node<'_>) -> Result<Step, PlanError>
-    ensures { Gives result (shaped (step_of (tree_of node.entry))) }
+    ensures step { Gives result (shaped (step_of (tree_of node.entry))) }
+    ensures short { IfOk result (λ step. length step.args < 2 ^ 32) }
 {
     match node {
         Node::Word { text: _, at } => Err(PlanError::Shape { at }),
@@ -47,13 +53,17 @@ fn step_in(alloc: Global, node: Node<'_>) -> Result<Step, PlanError>
     }
 }
 
-// The first word is the name. No words make no step.
+// The first word is the name. No words make no step, and 2^32 of them are not held.
 fn named_step(at: u64, words: Texts) -> Result<Step, PlanError>
-    ensures { Gives result (shaped (step_with at (Ok words))) }
+    ensures step { Gives result (shaped (step_with at (Ok words))) }
+    ensures short { IfOk result (λ step. length step.args < 2 ^ 32) }
 {
     let mut words = words.into_vec();
     if words.is_empty() {
         return Err(PlanError::Shape { at });
+    }
+    if words.len() > u32::MAX as usize {
+        return Err(PlanError::Memory);
     }
     let name = words.remove(0);
     Ok(Step {

@@ -13,7 +13,8 @@ use Rattle.wp_lex.specs.declared.place.Class.{Class}
 use Rattle.wp_lex.specs.declared.place.Class.TheVariants.{Letter, Opens, Closes, Blank, Bad}
 use Rattle.wp_lex.specs.declared.place.Place.{Place}
 use Rattle.wp_lex.specs.Words.{class_at, word_of}
-use Rattle.wp_lex.specs.Faults.{place_at, place_behind, depth_of, is_skipped, is_missing, outside_fault, fault_by, fault_at, fault_from, first_of, fault_of, plan_fault_of}
+use Rattle.wp_lex.specs.Places.{place_at, place_behind, depth_of}
+use Rattle.wp_lex.specs.Faults.{is_skipped, is_missing, outside_fault, fault_by, fault_at, fault_from, first_of, fault_of, plan_fault_of}
 use Rattle.wp_lex.specs.Items.{item_by, item_at, items_of, plan_items_of}
 use Rattle.wp_lex.specs.Trees.{Leaf, Branch, Trees, End, Then}
 use Rattle.wp_lex.specs.Lists.{spelled, IsOneList, AreLists}

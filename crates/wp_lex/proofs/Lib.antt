@@ -3,3 +3,7 @@ pub mod Steps
 pub mod Levels
 pub mod Spelling
 pub mod Balance
+pub mod Rise
+pub mod First
+pub mod Runs
+pub mod PlanFaults

@@ -83,3 +83,15 @@ a_closing_bracket_outside = refl
 
 a_plan_left_open : plan_fault_of (codes "(a)(b") ≡ Some Unclosed
 a_plan_left_open = refl
+
+a_word_behind_the_list : fault_of (codes "(a) x") ≡ Some (Trailing 4)
+a_word_behind_the_list = refl
+
+a_bad_byte_behind_the_list : fault_of (codes "(a) " ++ 127 ∷ codes "x") ≡ Some (BadByte 4)
+a_bad_byte_behind_the_list = refl
+
+a_comment_behind_the_list : fault_of (codes "(a) ; (b) x") ≡ None
+a_comment_behind_the_list = refl
+
+a_comment_at_the_end_of_an_open_list : fault_of (codes "(a ; )") ≡ Some Unclosed
+a_comment_at_the_end_of_an_open_list = refl

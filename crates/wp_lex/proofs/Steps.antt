@@ -51,7 +51,8 @@ use Rattle.wp_lex.specs.declared.place.Class.{Class}
 use Rattle.wp_lex.specs.declared.place.Place.{Place}
 use Rattle.wp_lex.specs.declared.place.Class.TheVariants.{Blank}
 use Rattle.wp_lex.specs.Words.{is_commented, class_at, class_of, is_letter, is_opening, is_closing, follows_letter}
-use Rattle.wp_lex.specs.Faults.{place_at, place_behind, fault_by, fault_at, fault_at_end, fault_from, first_of, IsCounted, Explains}
+use Rattle.wp_lex.specs.Places.{place_at, place_behind, IsCounted}
+use Rattle.wp_lex.specs.Faults.{fault_by, fault_at, fault_at_end, fault_from, first_of, Explains}
 use Rattle.wp_lex.specs.Items.{item_by, item_at, items_before}
 
 -- a semicolon stands in the last line of a reversed front

@@ -1,10 +1,9 @@
 -- The lexical faults of a text. Each place of the text has a fault or none, by what stands there and how many lists were opened
 -- and closed before it; the end of the text comes after all places. The fault of the text is the one of least place.
--- A PDDL text is one list. A plan file is any number of lists, and between them stand labels, as `0.001:`, and durations, as `[1]`.
+-- A PDDL text is one list. A plan file is any number of lists, with labels and durations between them.
 -- At most 64 lists stand open at once: that limit is ours.
-use Rattle.std.specs.Prelude.{ℕ, ◌+◌, ◌-◌, ◌^◌, ◌≤◌, ◌<◌, ◌≡◌, ◌==◌, nat_le, Bool, false, not, ◌&&◌, ◌||◌, if◌then◌else◌, Option, None, Some, List, [], ◌∷◌, length, map, take, drop, slice_index, count_by}
-use Rattle.std.specs.Char.{is_ascii_digit}
-use Rattle.std.specs.List.{list_all, range_with_len}
+use Rattle.std.specs.Prelude.{◌⊎◌, MatchOption, ℕ, ◌-◌, ◌<◌, ◌≡◌, ◌==◌, Bool, false, not, ◌&&◌, ◌||◌, if◌then◌else◌, Option, None, Some, List, [], ◌∷◌, length, map, drop}
+use Rattle.std.specs.List.{range_with_len}
 use Rattle.wp_lex.specs.declared.error.LexError.{LexError}
 use Rattle.wp_lex.specs.declared.error.LexError.TheVariants.{BadByte, Unopened, Unclosed, Trailing, TooDeep, Empty, Memory}
 use Rattle.wp_lex.specs.declared.place.Source.{Source}
@@ -12,54 +11,9 @@ use Rattle.wp_lex.specs.declared.place.Source.TheVariants.{Pddl, Plan}
 use Rattle.wp_lex.specs.declared.place.Class.{Class}
 use Rattle.wp_lex.specs.declared.place.Class.TheVariants.{Letter, Opens, Closes, Blank, Bad}
 use Rattle.wp_lex.specs.declared.place.Place.{Place}
-use Rattle.wp_lex.specs.Words.{is_letter, is_opening, is_closing, class_at, follows_letter, word_of}
-
--- digits with at most one point among them, the first a digit
-abbrev pub is_number : List ℕ → Bool
-is_number bytes =
-    is_ascii_digit (slice_index bytes 0)
-    && list_all (λ byte. is_ascii_digit byte || byte == 46) bytes
-    && nat_le (count_by (λ byte. byte == 46) bytes) 1
-
--- a number and a colon
-abbrev pub is_label : List ℕ → Bool
-is_label word = slice_index word (length word - 1) == 58 && is_number (take (length word - 1) word)
-
--- a word of at least two bytes that begins with `[` and ends with `]`
-abbrev pub is_duration : List ℕ → Bool
-is_duration word =
-    nat_le 2 (length word) && slice_index word 0 == 91 && slice_index word (length word - 1) == 93
-
--- a place of a text
-abbrev pub place_at : List ℕ → ℕ → Place
-place_at text i = record {
-  at = i;
-  continues = follows_letter text i;
-  opened = count_by (λ k. is_opening (class_at text k)) (range_with_len 0 i);
-  closed = count_by (λ k. is_closing (class_at text k)) (range_with_len 0 i);
-}
-
--- the counts of lists are at most that of the bytes, which is a length
-pub record IsCounted (place : Place) : Type 0 where
-  pub short : place.at < 2 ^ 64 - 1
-  pub opened_within : place.opened ≤ place.at
-  pub closed_within : place.closed ≤ place.at
-
--- the next place, where a byte of the class stands at this one
-abbrev pub place_behind : Class → Place → Place
-place_behind class place = record {
-  at = place.at + 1;
-  continues = is_letter class;
-  opened = place.opened + (if is_opening class then 1 else 0);
-  closed = place.closed + (if is_closing class then 1 else 0);
-}
-
--- the number of lists that stand open
-abbrev pub depth_of : Place → ℕ
-depth_of place = place.opened - place.closed
-
-abbrev pub is_outside : Place → Bool
-is_outside place = depth_of place == 0
+use Rattle.wp_lex.specs.Words.{class_at, word_of}
+use Rattle.wp_lex.specs.Labels.{is_label, is_duration}
+use Rattle.wp_lex.specs.Places.{place_at, depth_of, is_outside}
 
 -- whether the one list of a PDDL text was closed
 abbrev pub is_over : Source → Place → Bool
@@ -131,3 +85,27 @@ plan_fault_of text = fault_from Plan text 0
 abbrev pub Explains : LexError → Option LexError → Type 0
 Explains Memory fault = Unit {0}
 Explains error fault = fault ≡ Some error
+
+-- a fault that a plan file may have
+abbrev pub IsPlanFault : LexError → Type 0
+IsPlanFault (Trailing at) = ⊥
+IsPlanFault Empty = ⊥
+IsPlanFault error = Unit {0}
+
+-- the fault is that of a place, and no place before has one, or that of the end, and no place has one
+abbrev pub NoneBefore : Source → List ℕ → ℕ → Type 0
+NoneBefore source text i = (k : ℕ) → k < i → fault_at source text k ≡ None
+
+abbrev pub IsFirstFault : Source → List ℕ → LexError → Type 0
+IsFirstFault source text error =
+    ((i : ℕ) × (i < length text) × (fault_at source text i ≡ Some error) × NoneBefore source text i)
+    ⊎ (NoneBefore source text (length text) × (fault_at_end source (place_at text (length text)) ≡ Some error))
+
+abbrev pub HasNoFault : Source → List ℕ → Type 0
+HasNoFault source text =
+    NoneBefore source text (length text) × (fault_at_end source (place_at text (length text)) ≡ None)
+
+-- the fault of a text is the one of least place, where the end comes after all places
+abbrev pub FaultsAreFirst : Type 0
+FaultsAreFirst = (source : Source) (text : List ℕ)
+    → MatchOption (fault_from source text 0) (HasNoFault source text) (IsFirstFault source text)

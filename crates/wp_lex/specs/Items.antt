@@ -10,7 +10,8 @@ use Rattle.wp_lex.specs.declared.place.Place.{Place}
 use Rattle.wp_lex.specs.declared.item.Item.{Item}
 use Rattle.wp_lex.specs.declared.item.Item.TheVariants.{Word, Open, Close}
 use Rattle.wp_lex.specs.Words.{class_at, word_of}
-use Rattle.wp_lex.specs.Faults.{place_at, is_skipped}
+use Rattle.wp_lex.specs.Places.{place_at}
+use Rattle.wp_lex.specs.Faults.{is_skipped}
 
 abbrev pub word_item : Source → Place → List ℕ → Option Item
 word_item source place word = if is_skipped source place word then None else Some (Word word place.at)

@@ -1,6 +1,9 @@
 pub mod Words
+pub mod Labels
+pub mod Places
 pub mod Faults
 pub mod Items
 pub mod Trees
 pub mod Node
 pub mod Lists
+pub mod Rising

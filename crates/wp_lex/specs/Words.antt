@@ -1,26 +1,7 @@
 -- The words of a text: the longest runs of printable ASCII bytes other than brackets and the semicolon, outside comments,
 -- with A to Z turned into a to z. A comment runs from a semicolon to the next line feed (byte 10) or the end. Comments and
 -- letter case are PDDL's. All this is said of places in the whole text.
-use Rattle.std.specs.Prelude.{
-  ℕ,
-  zero,
-  suc,
-  ◌+◌,
-  ◌==◌,
-  nat_le,
-  Bool,
-  true,
-  false,
-  not,
-  ◌&&◌,
-  ◌||◌,
-  if◌then◌else◌,
-  List,
-  take,
-  take_while,
-  reverse,
-  slice_index,
-}
+use Rattle.std.specs.Prelude.{ℕ, zero, suc, ◌+◌, ◌==◌, nat_le, Bool, true, false, not, ◌&&◌, ◌||◌, if◌then◌else◌, List, take, take_while, reverse, slice_index, ◌≡◌, ◌<◌, ◌≤◌, drop, length}
 use Rattle.std.specs.List.{list_any}
 use Rattle.std.specs.Str.{str_to_ascii_lowercase}
 use Rattle.wp_lex.specs.declared.place.Class.{Class}
@@ -33,10 +14,6 @@ is_between low high byte = nat_le low byte && nat_le byte high
 -- tab, line feed, vertical tab, form feed, carriage return and space
 abbrev pub is_separator : ℕ → Bool
 is_separator byte = is_between 9 13 byte || byte == 32
-
--- brackets and the semicolon
-abbrev pub is_special : ℕ → Bool
-is_special byte = byte == 40 || byte == 41 || byte == 59
 
 -- what a byte is for, outside a comment: a semicolon separates words, as the comment does that it begins
 abbrev pub class_of : ℕ → Class
@@ -74,3 +51,15 @@ follows_letter text (suc i) = is_letter (class_at text i)
 -- the word that begins with the first of these bytes: a semicolon ends it, so no comment begins within it
 abbrev pub word_of : List ℕ → List ℕ
 word_of rest = str_to_ascii_lowercase (take_while (λ byte. is_letter (class_of byte)) rest)
+
+-- the n bytes from a place are a longest run of letters of the text
+pub record IsRun (text : List ℕ) (i n : ℕ) : Type 0 where
+  pub within : i + n ≤ length text
+  pub letters : (k : ℕ) → i ≤ k → k < i + n → is_letter (class_at text k) ≡ true
+  pub ends : i + n < length text → is_letter (class_at text (i + n)) ≡ false
+  pub begins : follows_letter text i ≡ false
+
+-- where a letter follows none, the word from there is a longest run of letters, with A to Z turned into a to z
+abbrev pub WordsAreRuns : Type 0
+WordsAreRuns = (text : List ℕ) (i : ℕ) → i < length text → is_letter (class_at text i) ≡ true → follows_letter text i ≡ false
+    → (n : ℕ) × IsRun text i n × (0 < n) × (word_of (drop i text) ≡ str_to_ascii_lowercase (take n (drop i text)))

@@ -3,7 +3,7 @@
 ghost use Rattle.std.specs.Prelude.{◌≡◌, ◌==◌, ◌||◌, slice_index, count_by};
 ghost use Rattle.std.specs.Char.{is_ascii_digit};
 ghost use Rattle.std.specs.List.{list_all};
-ghost use Rattle.wp_lex.specs.Faults.{is_number, is_label, is_duration};
+ghost use Rattle.wp_lex.specs.Labels.{is_number, is_label, is_duration};
 
 /// Whether the word is a label such as `0.001:`.
 pub fn is_label(word: &[u8]) -> bool

@@ -1,6 +1,19 @@
 //! What holds of the definitions alone.
 
+ghost use Rattle.wp_lex.specs.Words.{WordsAreRuns};
+ghost use Rattle.wp_lex.specs.Faults.{FaultsAreFirst};
 ghost use Rattle.wp_lex.specs.Lists.{TextsAreLists, PlansAreLists, ListsAreRead};
+ghost use Rattle.wp_lex.specs.Rising.{TextsRise, PlansRise};
+
+/// The word from a place where a letter follows none is a longest run of letters outside comments.
+pub fn words_are_runs()
+    ensures { WordsAreRuns }
+{}
+
+/// The fault of a text is the one of least place, where the end comes after all places.
+pub fn faults_are_first()
+    ensures { FaultsAreFirst }
+{}
 
 /// A PDDL text without a fault is one list.
 pub fn texts_are_lists()
@@ -15,4 +28,14 @@ pub fn plans_are_lists()
 /// Trees that are spelled out as brackets and words are read back.
 pub fn lists_are_read()
     ensures { ListsAreRead }
+{}
+
+/// The places of the trees of a text rise from the left to the right.
+pub fn texts_rise()
+    ensures { TextsRise }
+{}
+
+/// The places of the trees of a plan file rise from the left to the right.
+pub fn plans_rise()
+    ensures { PlansRise }
 {}

@@ -5,7 +5,7 @@ ghost use Rattle.wp_lex.specs.declared.place.Class.TheVariants.{Blank};
 ghost use Rattle.wp_lex.specs.Words.{class_of, is_letter, is_opening, is_closing};
 
 /// What is read.
-#[derive(Clone, Copy, Debug)]
+#[derive(Clone, Copy)]
 pub enum Source {
     /// A domain, a problem or another PDDL text: one list.
     Pddl,
@@ -15,7 +15,7 @@ pub enum Source {
 }
 
 /// What a byte is for.
-#[derive(Clone, Copy, Debug)]
+#[derive(Clone, Copy)]
 pub enum Class {
     /// It stands in a word.
     Letter,
@@ -34,7 +34,7 @@ pub enum Class {
 }
 
 /// A place of a text, and what stands before it.
-#[derive(Clone, Copy, Debug)]
+#[derive(Clone, Copy)]
 pub struct Place {
     /// Its byte offset from 0.
     pub at: u64,
@@ -50,7 +50,7 @@ pub struct Place {
 }
 
 impl Place {
-    ghost use Rattle.wp_lex.specs.Faults.{place_at, place_behind, depth_of, is_outside, IsCounted};
+    ghost use Rattle.wp_lex.specs.Places.{place_at, place_behind, depth_of, is_outside, IsCounted};
 
     /// The first place of a text.
     pub fn start() -> Place

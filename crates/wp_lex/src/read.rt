@@ -58,6 +58,7 @@ fn read_item(
     }
 }
 
+// The item, unless there is a fault.
 fn unless(fault: Option<LexError>, item: Item) -> Result<Option<Item>, LexError>
     ensures { MatchResult result
         (λ found. (fault ≡ None) × (found ≡ Some item))

@@ -1,7 +1,7 @@
 //! The lists of a text.
 
-ghost use Rattle.std.specs.Prelude.{◌≡◌, None, MatchResult};
-ghost use Rattle.wp_lex.specs.Faults.{fault_of, plan_fault_of, Explains};
+ghost use Rattle.std.specs.Prelude.{◌≡◌, None, MatchResult, IfErr};
+ghost use Rattle.wp_lex.specs.Faults.{fault_of, plan_fault_of, Explains, IsPlanFault};
 ghost use Rattle.wp_lex.specs.Items.{items_of, plan_items_of};
 
 use crate::error::LexError;
@@ -83,9 +83,10 @@ pub fn read_tree(alloc: Global, bytes: &[u8]) -> Result<Tree, LexError>
 
 /// The lists of a plan file, or the first lexical fault. Labels and durations between the lists are skipped.
 pub fn read_steps(alloc: Global, bytes: &[u8]) -> Result<Trees, LexError>
-    ensures { MatchResult result
+    ensures lists { MatchResult result
         (λ trees. (plan_fault_of bytes.now ≡ None) × (trees ≡ plan_items_of bytes.now))
         (λ error. Explains error (plan_fault_of bytes.now)) }
+    ensures kinds { IfErr result IsPlanFault }
 {
     let items = read_items(alloc, Source::Plan, bytes)?;
     Ok(Trees { items })

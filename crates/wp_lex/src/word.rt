@@ -16,7 +16,7 @@ pub fn read_word(alloc: Global, rest: &[u8]) -> Result<Vec<u8>, AllocError>
         .collect(alloc)
 }
 
-/// Whether a comment goes on behind the byte, and whether one did before it.
+/// Whether a comment goes on behind the byte, where `commented` says whether one did before it.
 pub fn is_commented(commented: bool, byte: u8) -> bool
     ensures { result ≡ (not (byte == 10) && (commented || byte == 59)) }
 {

@@ -1,1 +1,9 @@
+pub mod SameLemmas
 pub mod NameLemmas
+pub mod PlaceLemmas
+pub mod WorldLemmas
+pub mod WalkLemmas
+pub mod SchemaLemmas
+pub mod ClosureLemmas
+pub mod LiftLemmas
+pub mod SubtypeLemmas

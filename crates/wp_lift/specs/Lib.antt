@@ -5,3 +5,8 @@ pub mod Walk
 pub mod Typing
 pub mod Lifting
 pub mod Numbering
+pub mod Effects
+pub mod Kept
+pub mod Marks
+pub mod Stages
+pub mod Laws

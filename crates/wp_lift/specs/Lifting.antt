@@ -24,17 +24,14 @@ use Rattle.wp_lift.specs.declared.schemas.SlotAtom.{SlotAtom}
 use Rattle.wp_lift.specs.declared.schemas.SlotCond.{SlotCond}
 use Rattle.wp_lift.specs.declared.schemas.SlotCond.TheVariants as conds
 use Rattle.wp_lift.specs.declared.schemas.SlotEffect.{SlotEffect}
-use Rattle.wp_lift.specs.declared.schemas.Schema.{Schema}
+use Rattle.wp_lift.specs.declared.objects.Known.{Known}
+use Rattle.wp_lift.specs.declared.lifting.TypedSchema.{TypedSchema}
+use Rattle.wp_lift.specs.declared.scope.Scope.{Scope}
 use Rattle.wp_lift.specs.Problem.{Lifting}
 use Rattle.wp_lift.specs.Worlds.{grounded}
 use Rattle.wp_lift.specs.Names.{number_of}
 use Rattle.wp_lift.specs.Walk.{Walk, fine, wrong, wrong_if, each, each_after, ◌>>◌, ◌>>=◌}
 use Rattle.wp_lift.specs.Typing.{types_of, kinds_of, subtypes_of, is_one_too_many}
-
--- the objects so far: their names, and the types that each was declared with
-pub record Known : Type 0 where
-  pub names : List (List ℕ)
-  pub kinds : List (List ℕ)
 
 -- an object that is declared again keeps its place and has all its types
 abbrev pub with_kinds : Option ℕ → Known → List ℕ → List ℕ → Known
@@ -57,6 +54,9 @@ pub record Naming : Type 0 where
   pub preds : List Pred
   pub objects : List (List ℕ)
   pub params : List (List ℕ)
+
+abbrev pub naming_of : Scope → Naming
+naming_of scope = record { part = scope.part; preds = scope.preds.now; objects = scope.objects.now; params = scope.params.now }
 
 abbrev pub is_variable : List ℕ → Bool
 is_variable word = slice_index word 0 == 63
@@ -108,11 +108,6 @@ unfoldable pub effect_of : Naming → Effect → Walk SlotEffect
 effect_of naming effect = do
   atom ← atom_of naming effect.atom
   fine (record { add = effect.add; atom = atom })
-
--- a schema with the types of each of its parameters
-pub record TypedSchema : Type 0 where
-  pub schema : Schema
-  pub wanted : List (List ℕ)
 
 abbrev pub names_of : List Typed → List (List ℕ)
 names_of typed = map (λ (one : Typed). one.name.text) typed

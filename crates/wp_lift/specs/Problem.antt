@@ -1,19 +1,19 @@
 -- The lifted problem: objects, predicates and action schemas by number, and the instances of its schemas.
-use Rattle.std.specs.Prelude.{ℕ, ◌+◌, ◌==◌, ◌&&◌, Bool, true, false, List, [], ◌∷◌, length, map, filter, slice_index_or}
+use Rattle.std.specs.Prelude.{ℕ, ◌+◌, ◌&&◌, Bool, true, false, List, [], ◌∷◌, length, map, filter, slice_index_or}
 use Rattle.std.specs.List.{flat_map, list_any, range_with_len}
 use Rattle.wp_lift.specs.declared.atoms.GroundAtom.{GroundAtom}
 use Rattle.wp_lift.specs.declared.schemas.Pred.{Pred}
 use Rattle.wp_lift.specs.declared.schemas.Schema.{Schema}
 
 pub record Lifting : Type 0 where
-  pub objects : List (List ℕ)               -- their names
-  pub kinds : List (List ℕ)                 -- of each object the numbers of its declared types
+  pub objects : List (List ℕ)  -- their names
+  pub kinds : List (List ℕ)  -- of each object the numbers of its declared types
   pub preds : List Pred
   pub schemas : List Schema
-  pub wanted : List (List (List ℕ))         -- of each schema and parameter the numbers of its types
-  pub subtypes : List (List Bool)           -- of each type, for each type whether it is a subtype of that
-  pub opening : List GroundAtom             -- the stated atoms, in text order
-  pub goals : List GroundAtom               -- in text order
+  pub wanted : List (List (List ℕ))  -- of each schema and parameter the numbers of its types
+  pub subtypes : List (List Bool)  -- of each type, for each type whether it is a subtype of that
+  pub opening : List GroundAtom  -- the stated atoms, in text order
+  pub goals : List GroundAtom  -- in text order
 
 -- a schema with an object for each parameter
 pub record Instance : Type 0 where
@@ -55,7 +55,7 @@ tuples_for lifted s = tuples_of (map (fitting lifted s) (range_with_len 0 (schem
 abbrev pub instances : Lifting → List Instance
 instances lifted =
     flat_map (λ (s : ℕ). map (λ (args : List ℕ). let step : Instance = record { schema = s; args = args } in step) (tuples_for lifted s))
-        (range_with_len 0 (length lifted.schemas))
+    (range_with_len 0 (length lifted.schemas))
 
 -- each argument fits the parameter at its place, counted from the given one
 abbrev pub all_fit : Lifting → ℕ → ℕ → List ℕ → Bool

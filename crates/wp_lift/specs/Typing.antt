@@ -1,13 +1,13 @@
 -- Types, after the typing of PDDL (Fox and Long, PDDL 2.1, JAIR 2003): a subtype is what the declared pairs lead to, up to
 -- `object`, which is above every type. Cycles are allowed: all types of a cycle are subtypes of one another.
-use Rattle.std.specs.Prelude.{ℕ, ◌≡◌, ◌+◌, ◌==◌, nat_le, ◌&&◌, ◌||◌, Bool, true, false, is_none, unwrap_or, Option, None, Some, List, [], ◌∷◌, ◌++◌, length, map, fold, codes, slice_index_or, Contains, zero, suc, if◌then◌else◌}
+use Rattle.std.specs.Prelude.{ℕ, ◌==◌, nat_le, ◌&&◌, ◌||◌, Bool, false, is_none, unwrap_or, Option, None, Some, List, [], ◌∷◌, ◌++◌, length, map, codes, slice_index_or, Contains, zero, suc, if◌then◌else◌}
 use Rattle.std.specs.List.{flat_map, list_any, range_with_len}
 use Rattle.wp_syntax.specs.declared.error.Part.{Part}
 use Rattle.wp_syntax.specs.declared.error.PddlKind.TheVariants.{TooMany, UnknownType}
 use Rattle.wp_syntax.specs.declared.records.Name.{Name}
 use Rattle.wp_syntax.specs.declared.records.Typed.{Typed}
 use Rattle.wp_lift.specs.Names.{number_of}
-use Rattle.wp_lift.specs.Walk.{Walk, fine, wrong_if, each_after, ◌>>◌, ◌>>=◌}
+use Rattle.wp_lift.specs.Walk.{Walk, fine, wrong_if, each_after, ◌>>◌}
 
 -- two words of one group have the kinds that stand behind it: the very same words of the text
 abbrev pub first_place : List Name → Option ℕ
@@ -27,6 +27,10 @@ abbrev pub words_of : List Typed → List Name
 words_of [] = []
 words_of (typed ∷ rest) =
     typed.name ∷ (if is_same_place (first_place typed.kinds) (next_place rest) then words_of rest else typed.kinds ++ words_of rest)
+
+-- the words of a typed list's first name, up to the next name
+abbrev pub group_of : Typed → List Typed → List Name
+group_of typed rest = typed.name ∷ (if is_same_place (first_place typed.kinds) (next_place rest) then [] else typed.kinds)
 
 -- a name is added where it is new; it is one too many where as many as the limit are there
 abbrev pub noted_name : List (List ℕ) → List ℕ → List (List ℕ)
@@ -51,10 +55,10 @@ abbrev pub pairs_of : List (List ℕ) → List Typed → List (ℕ × ℕ)
 pairs_of types declared =
     flat_map (λ (typed : Typed). map (λ (kind : Name). (type_number types typed.name.text, type_number types kind.text)) typed.kinds) declared
 
--- the relation: a type is below itself, below `object`, and below what is above a type that it was declared with
+-- the relation: a type is below itself, below what is above `object`, and below what is above a type that it was declared with
 pub data IsSubtype (pairs : List (ℕ × ℕ)) : ℕ → ℕ → Type 0 where
   itself : (a : ℕ) → IsSubtype pairs a a
-  top : (a : ℕ) → IsSubtype pairs a 0
+  top : (a c : ℕ) → IsSubtype pairs 0 c → IsSubtype pairs a c
   step : (a b c : ℕ) → Contains pairs (a, b) → IsSubtype pairs b c → IsSubtype pairs a c
 
 -- the same, computed: of one type, for each type whether it is above; it grows by the declared pairs, as often as there are types
@@ -67,7 +71,7 @@ flags_of count a = map (λ (b : ℕ). (b == a) || (b == 0)) (range_with_len 0 co
 abbrev pub grown : List (ℕ × ℕ) → List Bool → List Bool
 grown pairs flags =
     map (λ (b : ℕ). is_flagged flags b || list_any (λ (pair : ℕ × ℕ). is_flagged flags pair.0 && (pair.1 == b)) pairs)
-        (range_with_len 0 (length flags))
+    (range_with_len 0 (length flags))
 
 abbrev pub grown_by : ℕ → List (ℕ × ℕ) → List Bool → List Bool
 grown_by zero pairs flags = flags
@@ -88,6 +92,9 @@ known_kind part types kind = wrong_if (is_none (number_of kind.text types)) part
 abbrev pub known_kinds : Part → List (List ℕ) → List Name → Walk (Unit {0})
 known_kinds part types [] = fine tt
 known_kinds part types (kind ∷ kinds) = known_kind part types kind >> known_kinds part types kinds
+
+abbrev pub kind_of : Part → List (List ℕ) → Name → Walk ℕ
+kind_of part types kind = known_kind part types kind >> fine (type_number types kind.text)
 
 -- the types of a kind, each of which has to be declared
 abbrev pub kinds_of : Part → List (List ℕ) → List Name → Walk (List ℕ)

@@ -61,3 +61,7 @@ Fails (errors.Bad part kind at) faults = first faults ≡ Some (record { part = 
 abbrev pub Gives : {A : Type 0} → Result A PddlError → Walk A → Type 0
 Gives (Ok x) walk = walk ≡ fine x
 Gives (Err error) walk = Fails error walk.faults
+
+-- the same with items in front of its list
+abbrev pub behind : {A : Type 0} → List A → Walk (List A) → Walk (List A)
+behind front walk = record { faults = walk.faults; value = front ++ walk.value }

@@ -1,6 +1,6 @@
 -- What a lifted problem means, after Fox and Long, PDDL 2.1 (JAIR 2003), level 1: worlds, applicable instances, results,
 -- valid plans. A world is a set of ground atoms, here a test; it is closed: an atom that is not in it is false.
-use Rattle.std.specs.Prelude.{ℕ, nat_eq, nat_lt, ◌==◌, ◌&&◌, ◌||◌, not, Bool, true, false, List, [], ◌∷◌, ◌++◌, length, map, filter, slice_index_or, if◌then◌else◌}
+use Rattle.std.specs.Prelude.{ℕ, nat_eq, nat_lt, ◌==◌, ◌&&◌, ◌||◌, not, Bool, List, [], ◌∷◌, ◌++◌, length, map, filter, position, slice_index_or, Option, if◌then◌else◌}
 use Rattle.std.specs.List.{list_any, list_all}
 use Rattle.std.specs.Cmp.Lexicographic.{pointwise}
 use Rattle.wp_lift.specs.declared.atoms.GroundAtom.{GroundAtom}
@@ -43,21 +43,29 @@ holds args world (conds.Differ a b) = not (object_in args a == object_in args b)
 abbrev pub all_hold : Lifting → Instance → (GroundAtom → Bool) → Bool
 all_hold lifted step world = list_all (holds step.args world) (schema_at lifted step.schema).conds
 
+-- the place of the first condition of an instance, in text order, that does not hold
+abbrev pub first_false : Lifting → Instance → (GroundAtom → Bool) → Option ℕ
+first_false lifted step world = position (λ cond. not (holds step.args world cond)) (schema_at lifted step.schema).conds
+
 -- the atoms that the instance adds
 abbrev pub adds_of : Lifting → Instance → List GroundAtom
 adds_of lifted step =
     map (λ (effect : SlotEffect). grounded step.args effect.atom)
-        (filter (λ (effect : SlotEffect). effect.add) (schema_at lifted step.schema).effects)
+    (filter (λ (effect : SlotEffect). effect.add) (schema_at lifted step.schema).effects)
 
 -- the atoms that the instance deletes
 abbrev pub dels_of : Lifting → Instance → List GroundAtom
 dels_of lifted step =
     map (λ (effect : SlotEffect). grounded step.args effect.atom)
-        (filter (λ (effect : SlotEffect). not effect.add) (schema_at lifted step.schema).effects)
+    (filter (λ (effect : SlotEffect). not effect.add) (schema_at lifted step.schema).effects)
 
 -- the world less the delete effects, together with the add effects
 abbrev pub after : Lifting → Instance → (GroundAtom → Bool) → GroundAtom → Bool
 after lifted step world = λ a. (world a && not (among (dels_of lifted step) a)) || among (adds_of lifted step) a
+
+-- the place of the first goal atom, in text order, that is not in the world
+abbrev pub unmet_goal : Lifting → (GroundAtom → Bool) → Option ℕ
+unmet_goal lifted world = position (λ goal. not (world goal)) lifted.goals
 
 -- the schema is there, and one fitting object stands for each parameter
 abbrev pub is_instance : Lifting → Instance → Bool

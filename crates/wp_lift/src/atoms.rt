@@ -1,12 +1,13 @@
 //! Ground atoms: a predicate's number with the numbers of objects.
 
-ghost use Rattle.std.specs.Prelude.{◌≡◌, nat_eq};
+ghost use Rattle.std.specs.Prelude.{◌≡◌, ◌++◌, ◌∷◌, [], nat_eq, IfOk};
 ghost use Rattle.std.specs.Cmp.Lexicographic.{pointwise, nat_list_eq_equiv};
 ghost use Rattle.std.specs.Cmp.{partial_equiv_from_equiv};
 ghost use Rattle.std.specs.Hash as fed;
 ghost use Rattle.std.specs.Cmp.Rules.{hashing};
 ghost use Rattle.std.proofs.Common.{rules};
 
+use std::alloc::{AllocError, Global};
 use std::hash::{Hash, Hasher};
 use std::marker::Model;
 
@@ -44,6 +45,14 @@ impl Args {
     {
         self.items.as_slice()
     }
+
+    /// An equal list in memory of its own.
+    pub fn copy(&self, alloc: Global) -> Result<Args, AllocError>
+        ensures { IfOk result (λ args. args ≡ self.now) }
+    {
+        let items = Vec::from_slice(alloc, self.items.as_slice())?;
+        Ok(Args { items })
+    }
 }
 
 impl PartialEq for Args {
@@ -78,6 +87,19 @@ pub struct GroundAtom {
     pub args: Args,
 }
 
+impl GroundAtom {
+    /// An equal atom in memory of its own.
+    pub fn copy(&self, alloc: Global) -> Result<GroundAtom, AllocError>
+        ensures { IfOk result (λ atom. atom ≡ self.now) }
+    {
+        let args = self.args.copy(alloc)?;
+        Ok(GroundAtom {
+            pred: self.pred,
+            args,
+        })
+    }
+}
+
 /// A list of ground atoms.
 #[derive(Drop)]
 pub struct GroundAtoms {
@@ -106,6 +128,16 @@ impl GroundAtoms {
     {
         let GroundAtoms { items } = self;
         items
+    }
+
+    /// The list with one more atom at the end.
+    pub fn with_atom(self, atom: GroundAtom) -> Result<GroundAtoms, AllocError>
+        ensures { IfOk result (λ more. more ≡ self ++ atom ∷ []) }
+    {
+        let GroundAtoms { items } = self;
+        let mut items = items;
+        items.push(atom)?;
+        Ok(GroundAtoms { items })
     }
 
     pub fn as_slice(&self) -> &[GroundAtom]

@@ -9,12 +9,28 @@
 #![tactic(auto)]
 
 mod atoms;
+mod closure;
+mod fault;
+mod laws;
+mod lifted;
+mod lifting;
+mod meaning;
 mod names;
+mod objects;
+mod preds;
 mod schemas;
+mod scope;
+mod types;
+mod typing;
 mod world;
 
 pub use atoms::{Args, GroundAtom, GroundAtoms};
+pub use laws::rows_are_subtypes;
+pub use lifted::Lifted;
+pub use lifting::lift;
+pub use meaning::{grounded, object_in};
 pub use schemas::{
-    Pred, Preds, Schema, Schemas, Slot, SlotAtom, SlotCond, SlotConds, SlotEffect, SlotEffects, Slots,
+    Pred, Preds, Schema, Schemas, Slot, SlotAtom, SlotCond, SlotConds, SlotEffect, SlotEffects,
+    Slots,
 };
 pub use world::World;

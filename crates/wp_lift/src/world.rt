@@ -11,6 +11,7 @@ use std::marker::Model;
 /// A set of ground atoms: those that are true. What is not in it is false.
 #[derive(Drop)]
 pub struct World {
+    alloc: Global,
     atoms: IndexSet<GroundAtom>,
 }
 
@@ -29,8 +30,25 @@ impl World {
         ensures { result ≡ [] }
     {
         World {
+            alloc,
             atoms: IndexSet::new(alloc),
         }
+    }
+
+    /// The world in which these atoms are true.
+    pub fn of_atoms(alloc: Global, atoms: &[GroundAtom]) -> Result<World, AllocError>
+        ensures { IfOk result (λ world. among world ≡ among atoms.now) }
+    {
+        let mut world = World::new(alloc);
+        for atom in atoms {
+            world.note(atom.copy(alloc)?)?;
+        }
+        Ok(world)
+    }
+
+    /// What the world's own memory comes from.
+    pub fn alloc(&self) -> Global {
+        self.alloc
     }
 
     /// Whether the atom is true.

@@ -1,7 +1,7 @@
 //! The real shelf: files of the system, each opened by its path and read up to the limit.
 
 ghost use Rattle.std.specs.Prelude.{◌≡◌, ◌≤◌, ℕ, IfOk, None, length, vec_len};
-ghost use Rattle.wp_main.specs.Reads.{IsFaultOrMemory, IsReadTo};
+ghost use Rattle.wp_main.specs.Reads.{IsFaultOrMemory, IsBounded, IsWhole};
 
 use std::alloc::Global;
 use std::fs;
@@ -46,7 +46,7 @@ impl<'a, R: Files> Shelf for FileShelf<'a, R> {
 
 /// The bytes of the file at that path.
 fn read_path<R: Files>(rt: &R, alloc: Global, path: &str, limit: u64) -> Result<Vec<u8>, FetchError>
-    ensures { IsReadTo limit result }
+    ensures { IsBounded limit result }
 {
     match fs::open(rt, path) {
         Ok(mut file) => read_to_limit(alloc, &mut file, limit),
@@ -56,7 +56,8 @@ fn read_path<R: Files>(rt: &R, alloc: Global, path: &str, limit: u64) -> Result<
 
 /// All bytes that are left, read until a read gives none, or until one more than the limit has come.
 fn read_to_limit<F: Read>(alloc: Global, file: &mut F, limit: u64) -> Result<Vec<u8>, FetchError>
-    ensures { IsReadTo limit result }
+    ensures bounded { IsBounded limit result }
+    ensures whole { IsWhole (F.remaining file.old) limit result }
 {
     let mut bytes = Vec::new(alloc);
     let mut chunk = [0u8; CHUNK as usize];

@@ -4,7 +4,7 @@
 --   part = :parameters ( typed-vars ) | :precondition cond | :effect effect
 --
 -- Each part stands once at most, in any order. Each action is declared once, and there are no more than 4,096.
-use Rattle.std.specs.Prelude.{ℕ, Bool, List, [], ◌∷◌, ◌++◌, Option, Some, None, is_some, unwrap_or, not, nat_le, length, codes}
+use Rattle.std.specs.Prelude.{ℕ, Bool, List, [], Some, None, is_some, unwrap_or, not, nat_le, length}
 use Rattle.std.specs.List.{list_any}
 use Rattle.std.specs.Str.{bytes_eq}
 use Rattle.wp_lex.specs.Trees.{Tree, Trees, Leaf, Branch, End, Then}
@@ -27,38 +27,41 @@ no_parts = record { params = None; pre = None; effects = None }
 -- a part by its word, its place, and the list behind it
 abbrev pub part_of : Parts → List ℕ → ℕ → ℕ → Trees → Read Parts
 part_of so_far word at i trees = elim (part_head_of word) [
-    | part_heads.Parameters ↦ wrong_if (is_some so_far.params) Duplicate at
-        >> (typed_of roles.Action [] [] trees >>= λ params. fine (record so_far { params = Some params }))
-    | part_heads.Precondition ↦ wrong_if (is_some so_far.pre) Duplicate at
-        >> (cond_of (Branch i trees) >>= λ conds. fine (record so_far { pre = Some conds }))
-    | part_heads.Effect ↦ wrong_if (is_some so_far.effects) Duplicate at
-        >> (effect_of (Branch i trees) >>= λ effects. fine (record so_far { effects = Some effects }))
-    | part_heads.Vars ↦ wrong (Unsupported word) at >> fine so_far
-    | part_heads.Other ↦ wrong Shape at >> fine so_far
-  ]
+  | part_heads.Parameters ↦ wrong_if (is_some so_far.params) Duplicate at
+      >> (typed_of roles.Action [] [] trees >>= λ params. fine (record so_far { params = Some params }))
+  | part_heads.Precondition ↦ wrong_if (is_some so_far.pre) Duplicate at
+      >> (cond_of (Branch i trees) >>= λ conds. fine (record so_far { pre = Some conds }))
+  | part_heads.Effect ↦ wrong_if (is_some so_far.effects) Duplicate at
+      >> (effect_of (Branch i trees) >>= λ effects. fine (record so_far { effects = Some effects }))
+  | part_heads.Vars ↦ wrong (Unsupported word) at >> fine so_far
+  | part_heads.Other ↦ wrong Shape at >> fine so_far
+]
 
 -- a part that no list follows
-abbrev pub bare_part_of : Parts → List ℕ → ℕ → Read Parts
-bare_part_of so_far word at = elim (part_head_of word) [
-    | part_heads.Vars ↦ wrong (Unsupported word) at >> fine so_far
-    | _ ↦ wrong Shape at >> fine so_far
-  ]
+abbrev pub bare_part_of : List ℕ → ℕ → Read (Unit {0})
+bare_part_of word at = elim (part_head_of word) [
+  | part_heads.Vars ↦ wrong (Unsupported word) at
+  | _ ↦ wrong Shape at
+]
+
+-- a part by its word and what follows
+abbrev pub valued_of : Parts → List ℕ → ℕ → Tree → Read Parts
+valued_of so_far word at (Leaf text i) = bare_part_of word at >> fine so_far
+valued_of so_far word at (Branch i trees) = part_of so_far word at i trees
 
 abbrev pub parts_of : Parts → Trees → Read Parts
 parts_of so_far End = fine so_far
 parts_of so_far (Then (Branch at trees) rest) = wrong Shape at >> fine so_far
-parts_of so_far (Then (Leaf word at) End) = bare_part_of so_far word at
-parts_of so_far (Then (Leaf word at) (Then (Leaf text i) rest)) = bare_part_of so_far word at
-parts_of so_far (Then (Leaf word at) (Then (Branch i trees) rest)) =
-    part_of so_far word at i trees >>= λ new. parts_of new rest
+parts_of so_far (Then (Leaf word at) End) = bare_part_of word at >> fine so_far
+parts_of so_far (Then (Leaf word at) (Then value rest)) = valued_of so_far word at value >>= λ new. parts_of new rest
 
 abbrev pub action_from : Name → Parts → ActionText
 action_from name parts = record {
-    name = name;
-    params = unwrap_or parts.params [];
-    pre = unwrap_or parts.pre [];
-    effects = unwrap_or parts.effects []
-  }
+  name = name;
+  params = unwrap_or parts.params [];
+  pre = unwrap_or parts.pre [];
+  effects = unwrap_or parts.effects [];
+}
 
 abbrev pub is_defined : List ℕ → List ActionText → Bool
 is_defined text actions = list_any (λ action. bytes_eq action.name.text text) actions
@@ -70,9 +73,12 @@ defined_of before text at =
     >> (wrong_if (is_defined text before) Duplicate at
     >> wrong_if (nat_le 4096 (length before)) (TooMany 4096) at)
 
+abbrev pub no_action : ℕ → ActionText
+no_action at = action_from (name_at [] at) no_parts
+
 -- what stands behind :action, in the list at a place
-abbrev pub action_of : List ActionText → ℕ → Trees → Read (List ActionText)
-action_of before at End = wrong Shape at >> fine []
-action_of before at (Then (Branch i trees) rest) = wrong Shape i >> fine []
+abbrev pub action_of : List ActionText → ℕ → Trees → Read ActionText
+action_of before at End = wrong Shape at >> fine (no_action at)
+action_of before at (Then (Branch i trees) rest) = wrong Shape i >> fine (no_action at)
 action_of before at (Then (Leaf text i) rest) =
-    defined_of before text i >> (parts_of no_parts rest >>= λ parts. fine (action_from (name_at text i) parts ∷ []))
+    defined_of before text i >> (parts_of no_parts rest >>= λ parts. fine (action_from (name_at text i) parts))

@@ -5,7 +5,7 @@
 --           | ( :predicates ( NAME typed-vars )* ) | ( :action NAME part* )
 --
 -- Sections come in any order, all but :action once at most.
-use Rattle.std.specs.Prelude.{ℕ, Bool, true, false, List, [], ◌∷◌, ◌++◌, Option, Some, None, is_some, unwrap_or, codes}
+use Rattle.std.specs.Prelude.{ℕ, true, false, List, [], ◌∷◌, ◌++◌, Some, None, is_some, unwrap_or, codes}
 use Rattle.wp_lex.specs.Trees.{Tree, Trees, Leaf, Branch, End, Then}
 use Rattle.wp_syntax.specs.declared.error.PddlKind.TheVariants.{Shape, Unsupported, Duplicate}
 use Rattle.wp_syntax.specs.declared.records.Name.{Name}
@@ -26,19 +26,19 @@ no_sections = record { requirements = false; types = None; constants = None; pre
 -- a section by its word, with the place of its list and that of its word
 abbrev pub headed_section_of : Sections → ℕ → List ℕ → ℕ → Trees → Read Sections
 headed_section_of so_far at head i rest = elim (section_head_of head) [
-    | section_heads.Requirements ↦ wrong_if so_far.requirements Duplicate at
-        >> (flags_of rest >> fine (record so_far { requirements = true }))
-    | section_heads.Types ↦ wrong_if (is_some so_far.types) Duplicate at
-        >> (typed_of roles.Names [] [] rest >>= λ types. fine (record so_far { types = Some types }))
-    | section_heads.Constants ↦ wrong_if (is_some so_far.constants) Duplicate at
-        >> (typed_of roles.Names [] [] rest >>= λ constants. fine (record so_far { constants = Some constants }))
-    | section_heads.Predicates ↦ wrong_if (is_some so_far.preds) Duplicate at
-        >> (preds_of rest >>= λ preds. fine (record so_far { preds = Some preds }))
-    | section_heads.Action ↦
-        action_of so_far.actions at rest >>= λ new. fine (record so_far { actions = so_far.actions ++ new })
-    | section_heads.Unsupported ↦ wrong (Unsupported head) i >> fine so_far
-    | section_heads.Other ↦ wrong Shape at >> fine so_far
-  ]
+  | section_heads.Requirements ↦ wrong_if so_far.requirements Duplicate at
+      >> (flags_of rest >> fine (record so_far { requirements = true }))
+  | section_heads.Types ↦ wrong_if (is_some so_far.types) Duplicate at
+      >> (typed_of roles.Names [] [] rest >>= λ types. fine (record so_far { types = Some types }))
+  | section_heads.Constants ↦ wrong_if (is_some so_far.constants) Duplicate at
+      >> (typed_of roles.Names [] [] rest >>= λ constants. fine (record so_far { constants = Some constants }))
+  | section_heads.Predicates ↦ wrong_if (is_some so_far.preds) Duplicate at
+      >> (preds_of [] rest >>= λ preds. fine (record so_far { preds = Some preds }))
+  | section_heads.Action ↦
+      action_of so_far.actions at rest >>= λ action. fine (record so_far { actions = so_far.actions ++ action ∷ [] })
+  | section_heads.Unsupported ↦ wrong (Unsupported head) i >> fine so_far
+  | section_heads.Other ↦ wrong Shape at >> fine so_far
+]
 
 abbrev pub section_of : Sections → Tree → Read Sections
 section_of so_far (Leaf text at) = wrong Shape at >> fine so_far
@@ -57,12 +57,12 @@ sectioned_of trees = outline_of trees >>= λ outline. title_of (codes "domain") 
 
 abbrev pub domain_from : Name → Sections → Domain
 domain_from name sections = record {
-    name = name;
-    types = unwrap_or sections.types [];
-    constants = unwrap_or sections.constants [];
-    preds = unwrap_or sections.preds [];
-    actions = sections.actions
-  }
+  name = name;
+  types = unwrap_or sections.types [];
+  constants = unwrap_or sections.constants [];
+  preds = unwrap_or sections.preds [];
+  actions = sections.actions;
+}
 
 abbrev pub domain_of : Trees → Read Domain
 domain_of trees = sectioned_of trees >>= λ read. fine (domain_from read.0 read.1)

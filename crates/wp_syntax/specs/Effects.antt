@@ -4,7 +4,7 @@
 --   init   = atom | ( not atom )
 --
 -- Ours: the head of a list after `not` decides whether it is an atom, and (at NUMBER (..)) in :init is PDDL's timed literal.
-use Rattle.std.specs.Prelude.{ℕ, Bool, true, false, List, [], ◌∷◌, ◌++◌, ◌&&◌, codes}
+use Rattle.std.specs.Prelude.{ℕ, Bool, true, false, List, [], ◌∷◌, ◌++◌, ◌&&◌, Some, None, codes}
 use Rattle.std.specs.Str.{bytes_eq}
 use Rattle.wp_lex.specs.Trees.{Tree, Trees, Leaf, Branch, End, Then}
 use Rattle.wp_syntax.specs.declared.error.PddlKind.TheVariants.{Shape, Unsupported}
@@ -14,34 +14,42 @@ use Rattle.wp_syntax.specs.declared.records.InitItem.{InitItem}
 use Rattle.wp_syntax.specs.declared.word.Head.TheVariants as heads
 use Rattle.wp_syntax.specs.Word.{starts_with_digit}
 use Rattle.wp_syntax.specs.Heads.{head_of}
-use Rattle.wp_syntax.specs.Reading.{Read, fine, wrong, wrong_if, ◌>>=◌, ◌>>◌, each}
-use Rattle.wp_syntax.specs.Grammar.{atom_of}
+use Rattle.wp_syntax.specs.Reading.{Read, fine, wrong, ◌>>=◌, ◌>>◌}
+use Rattle.wp_syntax.specs.Grammar.{name_at, atom_of, lone_of}
+
+-- what stands where a text has no atom
+abbrev pub no_atom : List ℕ → ℕ → AtomText
+no_atom word at = record { pred = name_at word at; args = [] }
 
 -- the one atom behind a not
-abbrev pub negated_of : List ℕ → ℕ → Trees → Read (List AtomText)
-negated_of word at (Then (Branch i (Then (Leaf head j) terms)) End) = elim (head_of head) [
-    | heads.Name ↦ atom_of head j terms >>= λ atom. fine (atom ∷ [])
-    | _ ↦ wrong (Unsupported word) at >> fine []
+abbrev pub negated_of : List ℕ → ℕ → Trees → Read AtomText
+negated_of word at trees = elim (lone_of trees) [
+  | Some lone ↦ elim (head_of lone.word) [
+    | heads.Name ↦ atom_of lone.word lone.at lone.rest
+    | _ ↦ wrong (Unsupported word) at >> fine (no_atom word at)
   ]
-negated_of word at trees = wrong (Unsupported word) at >> fine []
+  | None ↦ wrong (Unsupported word) at >> fine (no_atom word at)
+]
 
-abbrev pub effects_from : Bool → List AtomText → List Effect
-effects_from add [] = []
-effects_from add (atom ∷ atoms) = record { add = add; atom = atom } ∷ effects_from add atoms
+-- an effect that is no conjunction, with the place of its list, its first word and that word's place
+abbrev pub plain_effect_of : ℕ → List ℕ → ℕ → Trees → Read (List Effect)
+plain_effect_of at head i rest = elim (head_of head) [
+  | heads.Not ↦ negated_of head i rest >>= λ atom. fine (record { add = false; atom = atom } ∷ [])
+  | heads.Name ↦ atom_of head i rest >>= λ atom. fine (record { add = true; atom = atom } ∷ [])
+  | heads.Other ↦ wrong Shape at >> fine []
+  | _ ↦ wrong (Unsupported head) i >> fine []
+]
 
 abbrev mutual
   pub effect_of : Tree → Read (List Effect)
   effect_of (Leaf text at) = wrong Shape at >> fine []
   effect_of (Branch at End) = fine []
   effect_of (Branch at (Then (Branch i trees) rest)) = wrong Shape at >> fine []
-  effect_of (Branch at (Then (Leaf head i) rest)) = elim (head_of head) [
-    | heads.And ↦ effects_of rest
-    | heads.Not ↦ negated_of head i rest >>= λ atoms. fine (effects_from false atoms)
-    | heads.Equal ↦ wrong (Unsupported head) i >> fine []
-    | heads.Reserved ↦ wrong (Unsupported head) i >> fine []
-    | heads.Name ↦ atom_of head i rest >>= λ atom. fine (record { add = true; atom = atom } ∷ [])
-    | heads.Other ↦ wrong Shape at >> fine []
+  effect_of (Branch at (Then (Leaf head i) rest)) = elim (bytes_eq head (codes "and")) [
+    | true ↦ effects_of rest
+    | false ↦ plain_effect_of at head i rest
   ]
+
   pub effects_of : Trees → Read (List Effect)
   effects_of End = fine []
   effects_of (Then tree rest) = effect_of tree >>= λ front. effects_of rest >>= λ back. fine (front ++ back)
@@ -51,25 +59,26 @@ abbrev pub is_timed : List ℕ → Trees → Bool
 is_timed head (Then (Leaf text i) (Then (Branch j trees) End)) = bytes_eq head (codes "at") && starts_with_digit text
 is_timed head trees = false
 
-abbrev pub facts_from : Bool → List AtomText → List InitItem
-facts_from stated [] = []
-facts_from stated (atom ∷ atoms) = record { stated = stated; atom = atom } ∷ facts_from stated atoms
+abbrev pub fact_from : Bool → AtomText → InitItem
+fact_from stated atom = record { stated = stated; atom = atom }
 
-abbrev pub stated_of : List ℕ → ℕ → Trees → Read (List InitItem)
+abbrev pub stated_of : List ℕ → ℕ → Trees → Read InitItem
 stated_of head at rest = elim (is_timed head rest) [
-    | true ↦ wrong (Unsupported head) at >> fine []
-    | false ↦ atom_of head at rest >>= λ atom. fine (record { stated = true; atom = atom } ∷ [])
-  ]
+  | true ↦ wrong (Unsupported head) at >> fine (fact_from true (no_atom head at))
+  | false ↦ atom_of head at rest >>= λ atom. fine (fact_from true atom)
+]
+
+-- an item of :init by its first word, with the place of its list and that word's place
+abbrev pub headed_fact_of : ℕ → List ℕ → ℕ → Trees → Read InitItem
+headed_fact_of at head i rest = elim (head_of head) [
+  | heads.Not ↦ negated_of head i rest >>= λ atom. fine (fact_from false atom)
+  | heads.Name ↦ stated_of head i rest
+  | heads.Other ↦ wrong Shape at >> fine (fact_from true (no_atom head i))
+  | _ ↦ wrong (Unsupported head) i >> fine (fact_from true (no_atom head i))
+]
 
 abbrev pub fact_of : Tree → Read (List InitItem)
 fact_of (Leaf text at) = wrong Shape at >> fine []
 fact_of (Branch at End) = wrong Shape at >> fine []
 fact_of (Branch at (Then (Branch i trees) rest)) = wrong Shape at >> fine []
-fact_of (Branch at (Then (Leaf head i) rest)) = elim (head_of head) [
-    | heads.And ↦ wrong (Unsupported head) i >> fine []
-    | heads.Not ↦ negated_of head i rest >>= λ atoms. fine (facts_from false atoms)
-    | heads.Equal ↦ wrong (Unsupported head) i >> fine []
-    | heads.Reserved ↦ wrong (Unsupported head) i >> fine []
-    | heads.Name ↦ stated_of head i rest
-    | heads.Other ↦ wrong Shape at >> fine []
-  ]
+fact_of (Branch at (Then (Leaf head i) rest)) = headed_fact_of at head i rest >>= λ fact. fine (fact ∷ [])

@@ -3,7 +3,7 @@
 --   cond = ( ) | ( and cond* ) | atom | ( = TERM TERM ) | ( not ( = TERM TERM ) )
 --   goal = ( ) | ( and goal* ) | atom
 --   atom = ( NAME TERM* )
-use Rattle.std.specs.Prelude.{ℕ, Bool, true, false, List, [], ◌∷◌, ◌++◌, ◌||◌, not, codes}
+use Rattle.std.specs.Prelude.{ℕ, Bool, true, false, List, [], ◌∷◌, ◌++◌, not, Option, Some, None, codes}
 use Rattle.std.specs.Str.{bytes_eq}
 use Rattle.wp_lex.specs.Trees.{Tree, Trees, Leaf, Branch, End, Then}
 use Rattle.wp_syntax.specs.declared.error.PddlKind.TheVariants.{Shape, Unsupported}
@@ -18,6 +18,10 @@ use Rattle.wp_syntax.specs.Reading.{Read, fine, wrong, wrong_if, ◌>>=◌, ◌>
 
 abbrev pub name_at : List ℕ → ℕ → Name
 name_at text at = record { text = text; at = at }
+
+abbrev pub place_of : Tree → ℕ
+place_of (Leaf text at) = at
+place_of (Branch at trees) = at
 
 -- a name or a variable
 abbrev pub term_of : Tree → Read (List Name)
@@ -36,63 +40,84 @@ abbrev pub equation : Bool → Name → Name → ℕ → Cond
 equation true a b at = Same a b at
 equation false a b at = Differ a b at
 
-abbrev pub is_list : Tree → Bool
-is_list (Leaf text at) = false
-is_list (Branch at trees) = true
+-- one side of an equality
+abbrev pub side_of : List ℕ → ℕ → Read Name
+side_of text at = wrong_if (not (is_term text)) Shape at >> fine (name_at text at)
 
--- a word of an equality
-abbrev pub side_of : Tree → Read Name
-side_of (Leaf text at) = wrong_if (not (is_term text)) Shape at >> fine (name_at text at)
-side_of (Branch at trees) = fine (name_at [] at)
-
--- The two sides of an equality whose = stands at a place: a list among them is no fault of its own.
-abbrev pub sides_of : Bool → List ℕ → ℕ → Tree → Tree → Read (List Cond)
-sides_of same word at first second =
-    wrong_if (is_list first || is_list second) (Unsupported word) at
-    >> (side_of first >>= λ a. side_of second >>= λ b. fine (equation same a b at ∷ []))
+-- The two sides of an equality whose = stands at a place.
+abbrev pub sides_of : Bool → List ℕ → ℕ → Tree → Tree → Read Cond
+sides_of same word at (Leaf first i) (Leaf second j) =
+    side_of first i >>= λ a. side_of second j >>= λ b. fine (equation same a b at)
+sides_of same word at first second = wrong (Unsupported word) at >> fine (equation same (name_at [] at) (name_at [] at) at)
 
 abbrev pub equality_of : Bool → List ℕ → ℕ → Trees → Read (List Cond)
-equality_of same word at (Then first (Then second End)) = sides_of same word at first second
+equality_of same word at (Then first (Then second End)) =
+    sides_of same word at first second >>= λ cond. fine (cond ∷ [])
 equality_of same word at trees = wrong Shape at >> fine []
+
+-- a list's first word, its place, and what stands behind it
+pub record Headed : Type 0 where
+  pub word : List ℕ
+  pub at : ℕ
+  pub rest : Trees
+
+-- the one list that the trees are, where it begins with a word
+abbrev pub lone_of : Trees → Option Headed
+lone_of (Then (Branch i (Then (Leaf word at) rest)) End) = Some (record { word = word; at = at; rest = rest })
+lone_of trees = None
 
 -- what stands behind a not, where that is an equality and nothing else
 abbrev pub negation_of : List ℕ → ℕ → Trees → Read (List Cond)
-negation_of word at (Then (Branch i (Then (Leaf head j) terms)) End) = elim (head_of head) [
-    | heads.Equal ↦ equality_of false head j terms
+negation_of word at trees = elim (lone_of trees) [
+  | Some lone ↦ elim (head_of lone.word) [
+    | heads.Equal ↦ equality_of false lone.word lone.at lone.rest
     | _ ↦ wrong (Unsupported word) at >> fine []
   ]
-negation_of word at trees = wrong (Unsupported word) at >> fine []
+  | None ↦ wrong (Unsupported word) at >> fine []
+]
+
+-- a condition that is no conjunction, with the place of its list, its first word and that word's place
+abbrev pub plain_cond_of : ℕ → List ℕ → ℕ → Trees → Read (List Cond)
+plain_cond_of at head i rest = elim (head_of head) [
+  | heads.Not ↦ negation_of head i rest
+  | heads.Equal ↦ equality_of true head i rest
+  | heads.Name ↦ atom_cond_of head i rest
+  | heads.Other ↦ wrong Shape at >> fine []
+  | _ ↦ wrong (Unsupported head) i >> fine []
+]
 
 abbrev mutual
   pub cond_of : Tree → Read (List Cond)
   cond_of (Leaf text at) = wrong Shape at >> fine []
   cond_of (Branch at End) = fine []
   cond_of (Branch at (Then (Branch i trees) rest)) = wrong Shape at >> fine []
-  cond_of (Branch at (Then (Leaf head i) rest)) = elim (head_of head) [
-    | heads.And ↦ conds_of rest
-    | heads.Not ↦ negation_of head i rest
-    | heads.Equal ↦ equality_of true head i rest
-    | heads.Reserved ↦ wrong (Unsupported head) i >> fine []
-    | heads.Name ↦ atom_cond_of head i rest
-    | heads.Other ↦ wrong Shape at >> fine []
+  cond_of (Branch at (Then (Leaf head i) rest)) = elim (bytes_eq head (codes "and")) [
+    | true ↦ conds_of rest
+    | false ↦ plain_cond_of at head i rest
   ]
+
   pub conds_of : Trees → Read (List Cond)
   conds_of End = fine []
   conds_of (Then tree rest) = cond_of tree >>= λ front. conds_of rest >>= λ back. fine (front ++ back)
+
+-- a goal that is no conjunction
+abbrev pub plain_goal_of : ℕ → List ℕ → ℕ → Trees → Read (List AtomText)
+plain_goal_of at head i rest = elim (head_of head) [
+  | heads.Name ↦ atom_of head i rest >>= λ atom. fine (atom ∷ [])
+  | heads.Other ↦ wrong Shape at >> fine []
+  | _ ↦ wrong (Unsupported head) i >> fine []
+]
 
 abbrev mutual
   pub goal_of : Tree → Read (List AtomText)
   goal_of (Leaf text at) = wrong Shape at >> fine []
   goal_of (Branch at End) = fine []
   goal_of (Branch at (Then (Branch i trees) rest)) = wrong Shape at >> fine []
-  goal_of (Branch at (Then (Leaf head i) rest)) = elim (head_of head) [
-    | heads.And ↦ goals_of rest
-    | heads.Not ↦ wrong (Unsupported head) i >> fine []
-    | heads.Equal ↦ wrong (Unsupported head) i >> fine []
-    | heads.Reserved ↦ wrong (Unsupported head) i >> fine []
-    | heads.Name ↦ atom_of head i rest >>= λ atom. fine (atom ∷ [])
-    | heads.Other ↦ wrong Shape at >> fine []
+  goal_of (Branch at (Then (Leaf head i) rest)) = elim (bytes_eq head (codes "and")) [
+    | true ↦ goals_of rest
+    | false ↦ plain_goal_of at head i rest
   ]
+
   pub goals_of : Trees → Read (List AtomText)
   goals_of End = fine []
   goals_of (Then tree rest) = goal_of tree >>= λ front. goals_of rest >>= λ back. fine (front ++ back)

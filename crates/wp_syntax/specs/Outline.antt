@@ -1,38 +1,37 @@
 -- What domains and problems share: ( define ( WORD NAME ) .. ), and flags.
-use Rattle.std.specs.Prelude.{◌≡◌, ℕ, Bool, List, [], ◌∷◌, not, codes, Result, Ok, Err}
+use Rattle.std.specs.Prelude.{◌≡◌, ℕ, List, [], not, codes, Result, Ok, Err}
 use Rattle.std.specs.Str.{bytes_eq}
-use Rattle.wp_lex.specs.Trees.{Tree, Trees, Leaf, Branch, End, Then}
+use Rattle.wp_lex.specs.Trees.{Tree, Trees, Leaf, Branch, End, Then, trees_of}
+use Rattle.wp_lex.specs.Node.{tree_of}
+use Rattle.wp_syntax.specs.declared.error.ReadError.{ReadError}
+use Rattle.wp_syntax.specs.declared.outline.Outline.{Outline}
 use Rattle.wp_syntax.specs.declared.error.PddlKind.TheVariants.{Shape}
 use Rattle.wp_syntax.specs.declared.records.Name.{Name}
 use Rattle.wp_syntax.specs.Word.{is_keyword, is_name}
-use Rattle.wp_syntax.specs.Reading.{Read, fine, wrong, wrong_if, ◌>>=◌, ◌>>◌}
-use Rattle.wp_syntax.specs.Grammar.{name_at}
+use Rattle.wp_syntax.specs.Reading.{Read, fine, wrong, wrong_if, ◌>>=◌, ◌>>◌, Fails}
+use Rattle.wp_syntax.specs.Grammar.{name_at, place_of}
 
 -- the place of a text's list, its title, and what follows
-pub record Outline : Type 0 where
+pub record Frame : Type 0 where
   pub at : ℕ
   pub title : Tree
   pub rest : Trees
 
-abbrev pub no_outline : ℕ → Outline
-no_outline at = record { at = at; title = Leaf [] at; rest = End }
+abbrev pub no_frame : ℕ → Frame
+no_frame at = record { at = at; title = Leaf [] at; rest = End }
 
 -- define and a title, in the list at a place
-abbrev pub inside_of : ℕ → Trees → Read Outline
+abbrev pub inside_of : ℕ → Trees → Read Frame
 inside_of at (Then (Leaf word i) (Then title rest)) =
     wrong_if (not (bytes_eq word (codes "define"))) Shape at >> fine (record { at = at; title = title; rest = rest })
-inside_of at trees = wrong Shape at >> fine (no_outline at)
+inside_of at trees = wrong Shape at >> fine (no_frame at)
 
 -- The trees of a text are one list; a row of any other kind has a fault at its head.
-abbrev pub outline_of : Trees → Read Outline
+abbrev pub outline_of : Trees → Read Frame
 outline_of (Then (Branch at trees) End) = inside_of at trees
-outline_of (Then (Branch at trees) rest) = wrong Shape at >> fine (no_outline at)
-outline_of (Then (Leaf text at) rest) = wrong Shape at >> fine (no_outline at)
-outline_of End = wrong Shape 0 >> fine (no_outline 0)
-
-abbrev pub place_of : Tree → ℕ
-place_of (Leaf text at) = at
-place_of (Branch at trees) = at
+outline_of (Then (Branch at trees) rest) = wrong Shape at >> fine (no_frame at)
+outline_of (Then (Leaf text at) rest) = wrong Shape at >> fine (no_frame at)
+outline_of End = wrong Shape 0 >> fine (no_frame 0)
 
 -- nothing stands there
 abbrev pub end_of : Trees → Read (Unit {0})
@@ -50,9 +49,11 @@ only_name_of at (Then tree rest) = name_of tree >>= λ name. end_of rest >> fine
 
 -- ( WORD NAME )
 abbrev pub title_of : List ℕ → Tree → Read Name
+title_of word (Leaf text at) = wrong Shape at >> fine (name_at [] at)
+title_of word (Branch at End) = wrong Shape at >> fine (name_at [] at)
+title_of word (Branch at (Then (Branch i trees) rest)) = wrong Shape at >> fine (name_at [] at)
 title_of word (Branch at (Then (Leaf head i) rest)) =
     wrong_if (not (bytes_eq head word)) Shape at >> only_name_of at rest
-title_of word tree = wrong Shape (place_of tree) >> fine (name_at [] 0)
 
 -- WORD*, each of which begins with a colon
 abbrev pub flag_of : Tree → Read (Unit {0})
@@ -62,3 +63,8 @@ flag_of (Branch at trees) = wrong Shape at
 abbrev pub flags_of : Trees → Read (Unit {0})
 flags_of End = fine tt
 flags_of (Then tree rest) = flag_of tree >> flags_of rest
+
+-- A call returns the outline of a text, or how it fails.
+abbrev pub Outlines : Result Outline ReadError → Read Frame → Type 0
+Outlines (Ok x) read = read ≡ fine (record { at = x.at; title = tree_of x.title; rest = trees_of x.rest.now })
+Outlines (Err e) read = Fails e read.faults

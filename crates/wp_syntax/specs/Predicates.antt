@@ -11,7 +11,7 @@ use Rattle.wp_syntax.specs.declared.error.PddlKind.TheVariants.{Shape, Reserved,
 use Rattle.wp_syntax.specs.declared.records.PredText.{PredText}
 use Rattle.wp_syntax.specs.declared.typing.Role.TheVariants as roles
 use Rattle.wp_syntax.specs.Word.{is_name, is_reserved}
-use Rattle.wp_syntax.specs.Reading.{Read, fine, wrong, wrong_if, ◌>>=◌, ◌>>◌, each_after}
+use Rattle.wp_syntax.specs.Reading.{Read, fine, wrong, wrong_if, ◌>>=◌, ◌>>◌}
 use Rattle.wp_syntax.specs.Grammar.{name_at}
 use Rattle.wp_syntax.specs.Typing.{typed_of}
 
@@ -25,19 +25,21 @@ declared_of before text at =
     >> (wrong_if (is_declared text before) Duplicate at
     >> wrong_if (nat_le 4096 (length before)) (TooMany 4096) at)
 
-abbrev pub declaration_of : List PredText → List ℕ → ℕ → Trees → Read (List PredText)
+abbrev pub declaration_of : List PredText → List ℕ → ℕ → Trees → Read PredText
 declaration_of before text at rest =
     declared_of before text at
-    >> (typed_of roles.Predicate [] [] rest >>= λ params. fine (record { name = name_at text at; params = params } ∷ []))
+    >> (typed_of roles.Predicate [] [] rest >>= λ params. fine (record { name = name_at text at; params = params }))
 
 abbrev pub pred_of : List PredText → Tree → Read (List PredText)
 pred_of before (Leaf text at) = wrong Shape at >> fine []
 pred_of before (Branch at End) = wrong Shape at >> fine []
 pred_of before (Branch at (Then (Branch i trees) rest)) = wrong Shape at >> fine []
 pred_of before (Branch at (Then (Leaf text i) rest)) = elim (is_name text) [
-    | true ↦ declaration_of before text i rest
-    | false ↦ wrong Shape at >> fine []
-  ]
+  | true ↦ declaration_of before text i rest >>= λ pred. fine (pred ∷ [])
+  | false ↦ wrong Shape at >> fine []
+]
 
-abbrev pub preds_of : Trees → Read (List PredText)
-preds_of trees = each_after pred_of [] trees
+-- the predicates so far and those that follow
+abbrev pub preds_of : List PredText → Trees → Read (List PredText)
+preds_of before End = fine before
+preds_of before (Then tree rest) = pred_of before tree >>= λ new. preds_of (before ++ new) rest

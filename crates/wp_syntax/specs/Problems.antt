@@ -4,7 +4,7 @@
 --   item    = ( :domain NAME ) | ( :requirements WORD* ) | ( :objects typed-names ) | ( :init init* ) | ( :goal goal )
 --
 -- Items come in any order, once at most; :init and :goal must be there, which is asked after all else.
-use Rattle.std.specs.Prelude.{ℕ, Bool, true, false, List, [], ◌∷◌, ◌++◌, Option, Some, None, is_some, is_none, unwrap_or, codes}
+use Rattle.std.specs.Prelude.{ℕ, true, false, List, [], Some, None, is_some, is_none, unwrap_or, codes}
 use Rattle.wp_lex.specs.Trees.{Tree, Trees, Leaf, Branch, End, Then}
 use Rattle.wp_syntax.specs.declared.error.PddlKind.TheVariants.{Shape, Unsupported, Duplicate}
 use Rattle.wp_syntax.specs.declared.records.Name.{Name}
@@ -41,17 +41,17 @@ goal_entry_of so_far at (Then tree rest) = wrong_if (is_some so_far.goal) Duplic
 -- an item by its word, with the place of its list and that of its word
 abbrev pub headed_entry_of : Entries → ℕ → List ℕ → ℕ → Trees → Read Entries
 headed_entry_of so_far at head i rest = elim (item_head_of head) [
-    | item_heads.Domain ↦ domain_name_of so_far at rest
-    | item_heads.Requirements ↦ wrong_if so_far.requirements Duplicate at
-        >> (flags_of rest >> fine (record so_far { requirements = true }))
-    | item_heads.Objects ↦ wrong_if (is_some so_far.objects) Duplicate at
-        >> (typed_of roles.Names [] [] rest >>= λ objects. fine (record so_far { objects = Some objects }))
-    | item_heads.Init ↦ wrong_if (is_some so_far.init) Duplicate at
-        >> (each fact_of rest >>= λ init. fine (record so_far { init = Some init }))
-    | item_heads.Goal ↦ goal_entry_of so_far at rest
-    | item_heads.Unsupported ↦ wrong (Unsupported head) i >> fine so_far
-    | item_heads.Other ↦ wrong Shape at >> fine so_far
-  ]
+  | item_heads.Domain ↦ domain_name_of so_far at rest
+  | item_heads.Requirements ↦ wrong_if so_far.requirements Duplicate at
+      >> (flags_of rest >> fine (record so_far { requirements = true }))
+  | item_heads.Objects ↦ wrong_if (is_some so_far.objects) Duplicate at
+      >> (typed_of roles.Names [] [] rest >>= λ objects. fine (record so_far { objects = Some objects }))
+  | item_heads.Init ↦ wrong_if (is_some so_far.init) Duplicate at
+      >> (each fact_of rest >>= λ init. fine (record so_far { init = Some init }))
+  | item_heads.Goal ↦ goal_entry_of so_far at rest
+  | item_heads.Unsupported ↦ wrong (Unsupported head) i >> fine so_far
+  | item_heads.Other ↦ wrong Shape at >> fine so_far
+]
 
 abbrev pub entry_of : Entries → Tree → Read Entries
 entry_of so_far (Leaf text at) = wrong Shape at >> fine so_far
@@ -67,18 +67,22 @@ entries_of so_far (Then tree rest) = entry_of so_far tree >>= λ new. entries_of
 abbrev pub complete_of : ℕ → Entries → Read (Unit {0})
 complete_of at entries = wrong_if (is_none entries.init) Shape at >> wrong_if (is_none entries.goal) Shape at
 
+-- all items of a problem, in the list at a place
+abbrev pub complete_entries_of : ℕ → Trees → Read Entries
+complete_entries_of at trees = entries_of no_entries trees >>= λ entries. complete_of at entries >> fine entries
+
 -- a problem's name and its items
 abbrev pub listed_of : Trees → Read (Name × Entries)
 listed_of trees = outline_of trees >>= λ outline. title_of (codes "problem") outline.title >>= λ name.
-    entries_of no_entries outline.rest >>= λ entries. complete_of outline.at entries >> fine (name, entries)
+    complete_entries_of outline.at outline.rest >>= λ entries. fine (name, entries)
 
 abbrev pub problem_from : Name → Entries → Problem
 problem_from name entries = record {
-    name = name;
-    objects = unwrap_or entries.objects [];
-    init = unwrap_or entries.init [];
-    goal = unwrap_or entries.goal []
-  }
+  name = name;
+  objects = unwrap_or entries.objects [];
+  init = unwrap_or entries.init [];
+  goal = unwrap_or entries.goal [];
+}
 
 abbrev pub problem_of : Trees → Read Problem
 problem_of trees = listed_of trees >>= λ read. fine (problem_from read.0 read.1)

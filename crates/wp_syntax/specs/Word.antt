@@ -1,5 +1,5 @@
 -- What a word may be. Words are bytes in lower case.
-use Rattle.std.specs.Prelude.{ℕ, Bool, true, false, List, [], ◌∷◌, ◌==◌, ◌&&◌, ◌||◌, not, nat_le, codes}
+use Rattle.std.specs.Prelude.{ℕ, Bool, false, List, [], ◌∷◌, ◌==◌, ◌&&◌, ◌||◌, not, nat_le, codes}
 use Rattle.std.specs.Str.{bytes_eq}
 
 abbrev pub is_dash : List ℕ → Bool

@@ -1,8 +1,8 @@
 //! The faults of a text that is a tree but no PDDL, or whose names mean nothing.
 
-ghost use Rattle.std.specs.Prelude.{◌≡◌};
+ghost use Rattle.std.specs.Prelude.{◌≡◌, IfOk};
 
-use std::alloc::{AllocError, AllocFailed};
+use std::alloc::{AllocError, AllocFailed, Global};
 use thiserror::Error;
 use wp_edge::Text;
 
@@ -67,27 +67,46 @@ impl From<AllocError> for PddlError {
 
 /// What ends a reading, before it is said in which part.
 #[derive(Debug, Drop)]
-pub enum Ending {
+pub enum ReadError {
     Bad { kind: PddlKind, at: u64 },
     Memory,
 }
 
-impl From<AllocError> for Ending {
-    ghost use Rattle.wp_syntax.specs.declared.error.Ending.TheVariants.{Memory};
+impl From<AllocError> for ReadError {
+    ghost use Rattle.wp_syntax.specs.declared.error.ReadError.TheVariants.{Memory};
 
     ghost from_gives = { λ _ e. e ≡ Memory };
 
-    fn from(_error: AllocError) -> Ending {
-        Ending::Memory
+    fn from(_error: AllocError) -> ReadError {
+        ReadError::Memory
     }
 }
 
-impl<T: Drop> From<AllocFailed<T>> for Ending {
-    ghost use Rattle.wp_syntax.specs.declared.error.Ending.TheVariants.{Memory};
+impl<T: Drop> From<AllocFailed<T>> for ReadError {
+    ghost use Rattle.wp_syntax.specs.declared.error.ReadError.TheVariants.{Memory};
 
     ghost from_gives = { λ _ e. e ≡ Memory };
 
-    fn from(_error: AllocFailed<T>) -> Ending {
-        Ending::Memory
+    fn from(_error: AllocFailed<T>) -> ReadError {
+        ReadError::Memory
     }
+}
+
+pub fn bad(kind: PddlKind, at: u64) -> ReadError
+    ensures { result ≡ ReadError.Bad kind at }
+{
+    ReadError::Bad { kind, at }
+}
+
+pub fn shape(at: u64) -> ReadError
+    ensures { result ≡ ReadError.Bad PddlKind.Shape at }
+{
+    bad(PddlKind::Shape, at)
+}
+
+pub fn unsupported(alloc: Global, word: &Text, at: u64) -> Result<ReadError, AllocError>
+    ensures { IfOk result (λ error. error ≡ ReadError.Bad (PddlKind.Unsupported word.now) at) }
+{
+    let word = word.copy(alloc)?;
+    Ok(bad(PddlKind::Unsupported { word }, at))
 }

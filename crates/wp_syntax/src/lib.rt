@@ -8,16 +8,27 @@
 #![tactic(auto)]
 
 mod action;
+mod atom;
+mod cond;
 mod domain;
+mod effect;
 mod error;
+mod goal;
+mod laws;
 mod lists;
+mod outline;
+mod predicate;
 mod problem;
+mod read;
 mod records;
 mod typing;
+mod unbuilt;
 mod word;
 
 pub use error::{Part, PddlError, PddlKind};
+pub use laws::{domain_faults_walk, problem_faults_walk};
 pub use lists::{ActionTexts, AtomTexts, Conds, Effects, InitItems, Names, PredTexts, TypedList};
+pub use read::{read_domain, read_problem};
 pub use records::{
     ActionText, AtomText, Cond, Domain, Effect, InitItem, Name, PredText, Problem, Typed,
 };

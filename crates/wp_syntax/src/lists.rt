@@ -1,8 +1,9 @@
 //! Lists of the records: each is seen as the plain list of its items.
 
-ghost use Rattle.std.specs.Prelude.{◌≡◌};
+ghost use Rattle.std.specs.Prelude.{◌≡◌, ◌++◌, ◌∷◌, [], OnOk};
 
 use crate::records::{ActionText, AtomText, Cond, Effect, InitItem, Name, PredText, Typed};
+use std::alloc::AllocError;
 use std::marker::Model;
 
 /// A list of names, as the kinds of a word or the terms of an atom.
@@ -237,6 +238,13 @@ impl Model for ActionTexts {
 }
 
 impl ActionTexts {
+    pub(crate) fn push(&mut self, action: ActionText) -> Result<(), AllocError>
+        ensures { OnOk result (self.new ≡ self.old ++ action ∷ []) }
+    {
+        self.items.push(action)?;
+        Ok(())
+    }
+
     pub fn of_vec(items: Vec<ActionText>) -> ActionTexts
         ensures { result ≡ items.items }
     {

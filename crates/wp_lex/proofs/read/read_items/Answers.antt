@@ -3,7 +3,8 @@ use Rattle.std.specs.Prelude.{option_to_list}
 use Rattle.std.proofs.lemmas.List.{take_rest}
 use Rattle.std.proofs.lemmas.Result.{err_from_is_err_and}
 use Rattle.wp_lex.specs.Words.{is_commented, class_at}
-use Rattle.wp_lex.specs.Faults.{place_behind, Explains}
+use Rattle.wp_lex.specs.Places.{place_behind}
+use Rattle.wp_lex.specs.Faults.{Explains}
 use Rattle.wp_lex.specs.Items.{item_at, items_before}
 use Rattle.wp_lex.proofs.Steps.{
   commented_here,

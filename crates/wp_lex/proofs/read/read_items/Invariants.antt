@@ -1,6 +1,7 @@
 use Rattle.std.proofs.Common.{◌≡◌}
 use Rattle.wp_lex.specs.Words.{is_commented}
-use Rattle.wp_lex.specs.Faults.{place_at, fault_from}
+use Rattle.wp_lex.specs.Places.{place_at}
+use Rattle.wp_lex.specs.Faults.{fault_from}
 use Rattle.wp_lex.specs.Items.{items_before}
 use Rattle.wp_lex.proofs.read.read_items.Given as goal
 

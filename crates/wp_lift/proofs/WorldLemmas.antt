@@ -1,0 +1,97 @@
+-- What notes, deletes and adds make of worlds.
+use Rattle.std.proofs.Common.{◌≡◌, ℕ, ◌&&◌, ◌||◌, not, Bool, true, false, cond, List, [], ◌∷◌, ◌++◌, map, filter, fold, Option, refl, sym, ◌∙◌, ap}
+use Rattle.std.specs.List.{position, position_from}
+use Rattle.wp_lift.specs.declared.schemas.SlotCond.{SlotCond}
+use Rattle.wp_lift.specs.Problem.{Lifting, Instance, schema_at}
+use Rattle.wp_lift.proofs.PlaceLemmas.{from-zero}
+use Rattle.wp_lift.specs.declared.atoms.GroundAtom.{GroundAtom}
+use Rattle.wp_lift.specs.declared.schemas.SlotEffect.{SlotEffect}
+use Rattle.wp_lift.specs.Worlds.{among, is_same_atom, noted, grounded, holds, first_false, after}
+use Rattle.wp_lift.specs.Effects.{deleted_by, added_by}
+use Rattle.wp_lift.proofs.SameLemmas.{same-atom, same-atom-sym}
+
+or_false : (b : Bool) → (b || false) ≡ b
+or_false true = refl
+or_false false = refl
+
+or_or : (a b c : Bool) → ((a || b) || c) ≡ (a || (b || c))
+or_or true b c = refl
+or_or false b c = refl
+
+among-push : (atoms : List GroundAtom) (a other : GroundAtom) → among (atoms ++ a ∷ []) other ≡ (among atoms other || is_same_atom other a)
+among-push [] a other = or_false (is_same_atom other a)
+among-push (x ∷ atoms) a other =
+    ap (λ b. is_same_atom other x || b) (among-push atoms a other) ∙ sym (or_or (is_same_atom other x) (among atoms other) (is_same_atom other a))
+
+there : (atoms : List GroundAtom) (a other : GroundAtom) (t : Bool) → is_same_atom other a ≡ t → among atoms a ≡ true → among atoms other ≡ (among atoms other || t)
+there atoms a other true e h = let same = ap (among atoms) (same-atom other a e) ∙ h in same ∙ ap (λ b. b || true) (sym same)
+there atoms a other false e h = sym (or_false (among atoms other))
+
+by_case : (atoms : List GroundAtom) (a other : GroundAtom) (t : Bool) → among atoms a ≡ t
+    → among (cond t atoms (atoms ++ a ∷ [])) other ≡ (among atoms other || is_same_atom other a)
+by_case atoms a other true e = there atoms a other (is_same_atom other a) refl e
+by_case atoms a other false e = among-push atoms a other
+
+pub among-noted : (atoms : List GroundAtom) (a other : GroundAtom) → among (noted atoms a) other ≡ (among atoms other || is_same_atom other a)
+among-noted atoms a other = by_case atoms a other (among atoms a) refl
+
+pub among-noted_all : (atoms news : List GroundAtom) (other : GroundAtom) → among (fold noted atoms news) other ≡ (among atoms other || among news other)
+among-noted_all atoms [] other = sym (or_false (among atoms other))
+among-noted_all atoms (a ∷ news) other =
+    among-noted_all (noted atoms a) news other
+    ∙ ap (λ b. b || among news other) (among-noted atoms a other)
+    ∙ or_or (among atoms other) (is_same_atom other a) (among news other)
+
+less : (b s m : Bool) → ((b && not s) && not m) ≡ (b && not (s || m))
+less true true m = refl
+less true false m = refl
+less false s m = refl
+
+and_true : (b : Bool) → b ≡ (b && true)
+and_true true = refl
+and_true false = refl
+
+pub deleted_all : (args : List ℕ) (other : GroundAtom) (b : Bool) (effects : List SlotEffect) → fold (deleted_by args other) b effects
+    ≡ (b && not (among (map (λ (effect : SlotEffect). grounded args effect.atom) (filter (λ (effect : SlotEffect). not effect.add) effects)) other))
+deleted_all args other b [] = and_true b
+deleted_all args other b (effect ∷ effects) =
+    let others = filter (λ (effect : SlotEffect). not effect.add) effects in
+    let behind = among (map (λ (effect : SlotEffect). grounded args effect.atom) others) other in
+    let atom = grounded args effect.atom in
+    deleted_all args other (deleted_by args other b effect) effects
+    ∙ elim effect.add as (λ t. (cond t b (b && not (is_same_atom atom other)) && not behind)
+    ≡ (b && not (among (map (λ (effect : SlotEffect). grounded args effect.atom) (cond (not t) (effect ∷ others) others)) other))) [
+      | true ↦ refl
+      | false ↦ ap (λ s. (b && not s) && not behind) (same-atom-sym atom other) ∙ less b (is_same_atom other atom) behind
+    ]
+
+pub added_all : (args : List ℕ) (other : GroundAtom) (b : Bool) (effects : List SlotEffect) → fold (added_by args other) b effects
+    ≡ (b || among (map (λ (effect : SlotEffect). grounded args effect.atom) (filter (λ (effect : SlotEffect). effect.add) effects)) other)
+added_all args other b [] = sym (or_false b)
+added_all args other b (effect ∷ effects) =
+    let others = filter (λ (effect : SlotEffect). effect.add) effects in
+    let behind = among (map (λ (effect : SlotEffect). grounded args effect.atom) others) other in
+    let atom = grounded args effect.atom in
+    added_all args other (added_by args other b effect) effects
+    ∙ elim effect.add as (λ t. (cond t (b || is_same_atom other atom) b || behind)
+    ≡ (b || among (map (λ (effect : SlotEffect). grounded args effect.atom) (cond t (effect ∷ others) others)) other)) [
+      | true ↦ or_or b (is_same_atom other atom) behind
+      | false ↦ refl
+    ]
+
+pub first_false-is : (lifted : Lifting) (step : Instance) (world : GroundAtom → Bool) (args : List ℕ) (conds : List SlotCond) (place : Option ℕ)
+    → args ≡ step.args → conds ≡ (schema_at lifted step.schema).conds
+    → place ≡ position_from (λ (cond : SlotCond). not (holds args world cond)) 0 conds → place ≡ first_false lifted step world
+first_false-is lifted step world args conds place a c e =
+    e ∙ from-zero (λ (cond : SlotCond). not (holds args world cond)) conds ∙ λ i. position (λ (cond : SlotCond). not (holds (a i) world cond)) (c i)
+
+pub after-is : (lifted : Lifting) (step : Instance) (args : List ℕ) (effects : List SlotEffect) (old middle new : GroundAtom → Bool)
+    → args ≡ step.args → effects ≡ (schema_at lifted step.schema).effects
+    → ((other : GroundAtom) → middle other ≡ fold (deleted_by args other) (old other) effects)
+    → ((other : GroundAtom) → new other ≡ fold (added_by args other) (middle other) effects) → new ≡ after lifted step old
+after-is lifted step args effects old middle new a e deletes adds =
+    let adds_in = λ (args : List ℕ) (effects : List SlotEffect) (other : GroundAtom). among (map (λ (effect : SlotEffect). grounded args effect.atom) (filter (λ (effect : SlotEffect). effect.add) effects)) other in
+    let dels_in = λ (args : List ℕ) (effects : List SlotEffect) (other : GroundAtom). among (map (λ (effect : SlotEffect). grounded args effect.atom) (filter (λ (effect : SlotEffect). not effect.add) effects)) other in
+    λ i other. (adds other ∙ added_all args other (middle other) effects
+    ∙ ap (λ b. b || adds_in args effects other) (deletes other ∙ deleted_all args other (old other) effects)
+    ∙ λ j. (old other && not (dels_in (a j) (e j) other)) || adds_in (a j) (e j) other) i

@@ -1,0 +1,10 @@
+-- Laws of the definitions.
+use Rattle.std.specs.Prelude.{ℕ, ◌≡◌, ◌↔◌, ◌<◌, true, List, [], length, slice_index_or}
+use Rattle.wp_syntax.specs.declared.records.Typed.{Typed}
+use Rattle.wp_lift.specs.Typing.{IsSubtype, is_flagged, subtypes_of, pairs_of}
+
+-- the computed rows are the relation
+abbrev pub RowsAreSubtypes : Type 0
+RowsAreSubtypes =
+    (types : List (List ℕ)) (declared : List Typed) (a b : ℕ) → a < length types → b < length types
+    → (is_flagged (slice_index_or (subtypes_of types declared) a []) b ≡ true) ↔ IsSubtype (pairs_of types declared) a b

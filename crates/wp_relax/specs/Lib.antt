@@ -1,0 +1,3 @@
+pub mod AdditiveCost
+pub mod RelaxedPlan
+pub mod Laws

@@ -1,0 +1,1 @@
+pub use Rattle.wp_task.specs.Task

@@ -1,0 +1,8 @@
+pub mod Firsts
+pub mod PartSteps
+mod Rows
+mod WholeTexts
+pub mod Order
+pub mod CondOrder
+pub mod DomainOrder
+pub mod ProblemOrder

@@ -1,0 +1,165 @@
+//! Effects, and the facts of `:init`.
+
+ghost use Rattle.std.specs.Prelude.{◌≡◌, List};
+ghost use Rattle.wp_lex.specs.Node.{tree_of};
+ghost use Rattle.wp_lex.specs.Trees.{trees_of};
+ghost use Rattle.wp_syntax.specs.Reading.{Adds, Gives, each};
+ghost use Rattle.wp_syntax.specs.Effects.{negated_of, plain_effect_of, effect_of, effects_of, is_timed, stated_of, headed_fact_of, fact_of};
+
+use crate::atom::{atom, lone, place_of};
+use crate::error::{ReadError, shape, unsupported};
+use crate::lists::InitItems;
+use crate::records::{AtomText, Effect, InitItem};
+use crate::word::{Head, head_of, is_word, starts_with_digit};
+use std::alloc::Global;
+use wp_edge::Text;
+use wp_lex::{Item, Node, next};
+
+// The one atom behind a `not`.
+fn negated(alloc: Global, word: &Text, at: u64, items: &[Item]) -> Result<AtomText, ReadError>
+    ensures { Gives result (negated_of word.now at (trees_of items.now)) }
+{
+    let Some((head, place, rest)) = lone(items) else {
+        return Err(unsupported(alloc, word, at)?);
+    };
+    match head_of(head) {
+        Head::Name => atom(alloc, head, place, rest),
+        _ => Err(unsupported(alloc, word, at)?),
+    }
+}
+
+// An effect that is no conjunction, by its first word.
+fn plain_effect(
+    alloc: Global,
+    at: u64,
+    head: &Text,
+    place: u64,
+    items: &[Item],
+    out: &mut Vec<Effect>,
+) -> Result<(), ReadError>
+    ensures { Adds result out.old.items out.new.items (plain_effect_of at head.now place (trees_of items.now)) }
+{
+    match head_of(head) {
+        Head::Not => {
+            let atom = negated(alloc, head, place, items)?;
+            out.push(Effect { add: false, atom })?;
+            Ok(())
+        }
+        Head::Name => {
+            let atom = atom(alloc, head, place, items)?;
+            out.push(Effect { add: true, atom })?;
+            Ok(())
+        }
+        Head::Other => Err(shape(at)),
+        _ => Err(unsupported(alloc, head, place)?),
+    }
+}
+
+/// An effect: its adds and deletes go behind those of `out`, in the order of the text.
+#[cycle(effects)]
+pub fn effect(alloc: Global, node: Node<'_>, out: &mut Vec<Effect>) -> Result<(), ReadError>
+    ensures { Adds result out.old.items out.new.items (effect_of (tree_of node.entry)) }
+{
+    let Node::List { at, inner } = node else {
+        return Err(shape(place_of(node)));
+    };
+    match next(inner) {
+        None => Ok(()),
+        Some((Node::List { at: _, inner: _ }, _)) => Err(shape(at)),
+        Some((Node::Word { text, at: place }, rest)) => {
+            if is_word(text, b"and") {
+                effects(alloc, rest, out)
+            } else {
+                plain_effect(alloc, at, text, place, rest, out)
+            }
+        }
+    }
+}
+
+#[cycle(effects)]
+fn effects(alloc: Global, items: &[Item], out: &mut Vec<Effect>) -> Result<(), ReadError>
+    ensures { Adds result out.old.items out.new.items (effects_of (trees_of items.now)) }
+{
+    let mut rest = items;
+    while let Some((node, after)) = next(rest) {
+        effect(alloc, node, out)?;
+        rest = after;
+    }
+    Ok(())
+}
+
+// PDDL's timed literal: `at`, a number, and a list.
+fn is_timed(head: &Text, items: &[Item]) -> bool
+    ensures { result ≡ is_timed head.now (trees_of items.now) }
+{
+    let Some((Node::Word { text, at: _ }, after)) = next(items) else {
+        return false;
+    };
+    let Some((Node::List { at: _, inner: _ }, after)) = next(after) else {
+        return false;
+    };
+    match next(after) {
+        None => is_word(head, b"at") && starts_with_digit(text),
+        Some(_) => false,
+    }
+}
+
+fn stated(alloc: Global, head: &Text, at: u64, items: &[Item]) -> Result<InitItem, ReadError>
+    ensures { Gives result (stated_of head.now at (trees_of items.now)) }
+{
+    if is_timed(head, items) {
+        return Err(unsupported(alloc, head, at)?);
+    }
+    let atom = atom(alloc, head, at, items)?;
+    Ok(InitItem { stated: true, atom })
+}
+
+fn headed_fact(
+    alloc: Global,
+    at: u64,
+    head: &Text,
+    place: u64,
+    items: &[Item],
+) -> Result<InitItem, ReadError>
+    ensures { Gives result (headed_fact_of at head.now place (trees_of items.now)) }
+{
+    match head_of(head) {
+        Head::Not => {
+            let atom = negated(alloc, head, place, items)?;
+            Ok(InitItem {
+                stated: false,
+                atom,
+            })
+        }
+        Head::Name => stated(alloc, head, place, items),
+        Head::Other => Err(shape(at)),
+        _ => Err(unsupported(alloc, head, place)?),
+    }
+}
+
+fn fact(alloc: Global, node: Node<'_>, out: &mut Vec<InitItem>) -> Result<(), ReadError>
+    ensures { Adds result out.old.items out.new.items (fact_of (tree_of node.entry)) }
+{
+    let Node::List { at, inner } = node else {
+        return Err(shape(place_of(node)));
+    };
+    let Some((Node::Word { text, at: place }, rest)) = next(inner) else {
+        return Err(shape(at));
+    };
+    out.push(headed_fact(alloc, at, text, place, rest)?)?;
+    Ok(())
+}
+
+/// The facts of `:init`.
+#[tactic(auto, using(crate::proofs::Firsts::fails_append))]
+pub fn facts(alloc: Global, items: &[Item]) -> Result<InitItems, ReadError>
+    ensures { Gives result (each fact_of (trees_of items.now)) }
+{
+    let mut facts = Vec::new(alloc);
+    let mut rest = items;
+    while let Some((node, after)) = next(rest) {
+        fact(alloc, node, &mut facts)?;
+        rest = after;
+    }
+    Ok(InitItems::of_vec(facts))
+}

@@ -1,0 +1,11 @@
+pub mod PackingLemmas
+pub mod NextLemmas
+pub mod OptionLemmas
+pub mod SetLemmas
+pub mod AddersLemmas
+pub mod TaskLemmas
+pub mod PlanLemmas
+pub mod WordLemmas
+pub mod Members
+pub mod NoveltyLemmas
+mod Rows

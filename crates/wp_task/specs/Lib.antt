@@ -1,0 +1,5 @@
+pub mod Set
+pub mod Packing
+pub mod Task
+pub mod Novelty
+pub mod Keeping

@@ -1,0 +1,164 @@
+//! States: sets of atoms.
+ghost use Rattle.std.specs.Prelude.{◌≡◌, ◌==◌, ◌&&◌, ◌||◌, not, ℕ, ◌<◌, ◌≤◌, true, false, length, replicate, IfOk, IfSome, IfNone, All};
+ghost use Rattle.wp_task.specs.Set.{has, lists, set_of, IsNext};
+
+use crate::atoms::Atoms;
+use crate::bits;
+use std::alloc::{AllocError, Global};
+use std::hash::{Hash, Hasher};
+use std::marker::Model;
+
+/// A set of the atoms below a size, one bit for each.
+#[derive(Drop)]
+pub struct State {
+    words: Vec<u64>,
+    size: u32,
+}
+
+impl Model for State {
+    ghost use Rattle.std.specs.Prelude.{List, Bool};
+    ghost use Rattle.wp_task.specs.Packing.{flags_in, IsPacked};
+
+    ghost Value = { List Bool };
+
+    ghost view = { λ s. flags_in s.words.items s.size };
+
+    ghost invariant = { λ s. IsPacked s.words.items s.size };
+}
+
+impl State {
+    /// The set of the listed atoms.
+    pub fn of(alloc: Global, atoms: &Atoms, size: u32) -> Result<State, AllocError>
+        requires { All (λ p. p < size) atoms.now }
+        ensures { IfOk result (λ state. state ≡ set_of atoms.now size) }
+    {
+        let mut state = State::empty(alloc, size)?;
+        state.insert_all(atoms);
+        Ok(state)
+    }
+
+    fn empty(alloc: Global, size: u32) -> Result<State, AllocError>
+        ensures { IfOk result (λ state. state ≡ replicate size false) }
+    {
+        let words = vec![in alloc; 0u64; (size as usize + 63) / 64]?;
+        Ok(State { words, size })
+    }
+
+    /// Whether the atom is in the set; none from the size on is.
+    pub fn has(&self, p: u32) -> bool
+        ensures { result ≡ has self.now p }
+    {
+        bits::is_set(self.words.as_slice(), p)
+    }
+
+    /// How many atoms the set is chosen from.
+    pub fn size(&self) -> u32
+        ensures { result ≡ length self.now }
+    {
+        self.size
+    }
+
+    /// The least atom of the set that is at least `from`.
+    pub fn next(&self, from: u32) -> Option<u32>
+        ensures found { IfSome result (λ p. IsNext self.now from p) }
+        ensures none { IfNone result ((q : ℕ) → from ≤ q → has self.now q ≡ false) }
+    {
+        if from >= self.size {
+            return None;
+        }
+        bits::next_set(self.words.as_slice(), from)
+    }
+
+    /// Puts an atom in.
+    fn insert(&mut self, p: u32)
+        requires { p < length self.old }
+        ensures size { length self.new ≡ length self.old }
+        ensures set { (q : ℕ) → has self.new q ≡ (has self.old q || (p == q)) }
+    {
+        bits::set_bit(&mut self.words, p);
+    }
+
+    /// Takes an atom out.
+    fn remove(&mut self, p: u32)
+        requires { p < length self.old }
+        ensures size { length self.new ≡ length self.old }
+        ensures set { (q : ℕ) → has self.new q ≡ (has self.old q && not (p == q)) }
+    {
+        bits::clear_bit(&mut self.words, p);
+    }
+
+    pub(crate) fn insert_all(&mut self, atoms: &Atoms)
+        requires { All (λ p. p < length self.old) atoms.now }
+        ensures size { length self.new ≡ length self.old }
+        ensures set { (q : ℕ) → has self.new q ≡ (has self.old q || lists atoms.now q) }
+    {
+        for p in atoms.as_slice() {
+            self.insert(*p);
+        }
+    }
+
+    pub(crate) fn remove_all(&mut self, atoms: &Atoms)
+        requires { All (λ p. p < length self.old) atoms.now }
+        ensures size { length self.new ≡ length self.old }
+        ensures set { (q : ℕ) → has self.new q ≡ (has self.old q && not (lists atoms.now q)) }
+    {
+        for p in atoms.as_slice() {
+            self.remove(*p);
+        }
+    }
+
+    /// An equal state.
+    pub fn copy(&self, alloc: Global) -> Result<State, AllocError>
+        ensures { IfOk result (λ copy. copy ≡ self.now) }
+    {
+        let words = Vec::from_slice(alloc, self.words.as_slice())?;
+        Ok(State {
+            words,
+            size: self.size,
+        })
+    }
+}
+
+/// States are equal where their sizes and their atoms are.
+impl PartialEq for State {
+    ghost use Rattle.std.specs.Cmp.Lexicographic.{pointwise};
+    ghost use Rattle.std.specs.Cmp.{bool_eq_equiv, partial_equiv_from_equiv};
+    ghost use Rattle.std.specs.Bool.{beq};
+    ghost use Rattle.std.proofs.lemmas.Cmp.{lists_equiv};
+
+    ghost eq = { pointwise beq };
+
+    ghost laws = { partial_equiv_from_equiv (lists_equiv bool_eq_equiv) };
+
+    fn eq(&self, other: &State) -> bool {
+        let words = self.words.as_slice();
+        let others = other.words.as_slice();
+        self.size == other.size && words == others
+    }
+}
+
+impl Eq for State {
+    ghost use Rattle.std.specs.Cmp.{bool_eq_equiv};
+    ghost use Rattle.std.proofs.lemmas.Cmp.{lists_equiv};
+
+    ghost laws = { lists_equiv bool_eq_equiv };
+}
+
+impl Hash for State {
+    ghost use Rattle.std.specs.Prelude.{refl};
+    ghost use Rattle.std.specs.Cmp.Lexicographic.{pointwise};
+    ghost use Rattle.std.specs.Cmp.{booleans_Decides};
+    ghost use Rattle.std.specs.Bool.{beq};
+    ghost use Rattle.std.proofs.Common.{ap};
+    ghost use Rattle.std.proofs.lemmas.Slice.Eq.{slice_eq-Decides};
+    ghost use Rattle.wp_task.specs.Packing.{hashed_words};
+
+    ghost hash_input = { hashed_words };
+
+    ghost respects_eq = { λ s t h. ap hashed_words ((slice_eq-Decides booleans_Decides s t (pointwise beq s t) refl).0 h) };
+
+    fn hash<H: Hasher>(&self, state: &mut H) {
+        let words = self.words.as_slice();
+        words.hash(state);
+    }
+}

@@ -1,0 +1,165 @@
+//! Tasks: what is given, and what an action and a plan do in it.
+ghost use Rattle.std.specs.Prelude.{◌≡◌, ℕ, ◌<◌, ◌≤◌, length, not, count_by, IfOk, All};
+ghost use Rattle.std.specs.List.{list_all};
+ghost use Rattle.wp_task.specs.Set.{has, AreAtoms};
+ghost use Rattle.wp_task.specs.Task.{act_at, applies, result_of, goal_counter, adders_of, is_plan, IsAct, IsTask};
+
+use crate::acts::{Act, Acts};
+use crate::adders;
+use crate::atoms::Atoms;
+use crate::state::State;
+use std::alloc::{AllocError, Global};
+use std::marker::Model;
+
+/// A planning task, with the list of the actions that add it for each atom.
+#[derive(Drop)]
+pub struct Task {
+    atoms: u32,
+    init: State,
+    goals: Atoms,
+    acts: Acts,
+    adders: Vec<Atoms>,
+}
+
+impl Model for Task {
+    ghost use Rattle.wp_task.specs.Task.{PlanningTask};
+
+    ghost Value = { PlanningTask };
+
+    ghost use Rattle.wp_task.specs.Keeping.{given_by, IsKept};
+
+    ghost view = { given_by };
+
+    ghost invariant = { IsKept };
+}
+
+impl Task {
+    /// The task of these parts: atoms are numbered below `atoms`, actions by their places.
+    pub fn new(
+        alloc: Global,
+        atoms: u32,
+        init: State,
+        goals: Atoms,
+        acts: Acts,
+    ) -> Result<Task, AllocError>
+        requires { IsTask (record { atoms = atoms; init = init; goals = goals; acts = acts }) }
+        ensures { IfOk result (λ task. task ≡ record { atoms = atoms; init = init; goals = goals; acts = acts }) }
+    {
+        let adders = adders::adders_by_atom(alloc, atoms, &acts)?;
+        Ok(Task {
+            atoms,
+            init,
+            goals,
+            acts,
+            adders,
+        })
+    }
+
+    /// How many atoms there are.
+    pub fn atoms(&self) -> u32
+        ensures value { result ≡ self.now.atoms }
+        ensures fits { IsTask self.now }
+    {
+        self.atoms
+    }
+
+    /// How many actions there are.
+    pub fn act_count(&self) -> u32
+        ensures value { result ≡ length self.now.acts }
+        ensures few { result ≤ 1048576 }
+    {
+        self.acts.as_slice().len() as u32
+    }
+
+    /// The action of a number.
+    pub fn act(&self, a: u32) -> &Act
+        requires { a < length self.now.acts }
+        ensures value { result.now ≡ act_at self.now.acts a }
+        ensures fits { IsAct self.now.atoms result.now }
+    {
+        &self.acts.as_slice()[a as usize]
+    }
+
+    /// The opening state.
+    pub fn init(&self) -> &State
+        ensures value { result.now ≡ self.now.init }
+        ensures size { length result.now ≡ self.now.atoms }
+    {
+        &self.init
+    }
+
+    /// The atoms that a plan makes true, in order.
+    pub fn goals(&self) -> &Atoms
+        ensures value { result.now ≡ self.now.goals }
+        ensures fits { AreAtoms self.now.atoms result.now }
+    {
+        &self.goals
+    }
+
+    /// The actions that add an atom, in number order.
+    pub fn adders(&self, p: u32) -> &Atoms
+        requires { p < self.now.atoms }
+        ensures value { result.now ≡ adders_of self.now.acts p }
+        ensures numbers { All (λ a. a < length self.now.acts) result.now }
+    {
+        &self.adders[p as usize]
+    }
+
+    /// Whether the action applies: its preconditions are in the state.
+    pub fn applies(&self, s: &State, a: u32) -> bool
+        requires { a < length self.now.acts }
+        ensures { result ≡ applies (act_at self.now.acts a) s.now }
+    {
+        has_all(s, &self.act(a).pre)
+    }
+
+    /// The state that the action leads to.
+    // Deletes first: an action that deletes and adds an atom leaves it true.
+    pub fn apply(&self, alloc: Global, s: &State, a: u32) -> Result<State, AllocError>
+        requires number { a < length self.now.acts }
+        requires size { length s.now ≡ self.now.atoms }
+        ensures { IfOk result (λ next. next ≡ result_of (act_at self.now.acts a) s.now) }
+    {
+        let act = self.act(a);
+        let mut next = s.copy(alloc)?;
+        next.remove_all(&act.del);
+        next.insert_all(&act.add);
+        Ok(next)
+    }
+
+    /// #g of a state: how many goals are not in it.
+    pub fn unmet_goals(&self, s: &State) -> u32
+        ensures { result ≡ goal_counter self.now.goals s.now }
+    {
+        count_missing(s, &self.goals) as u32
+    }
+
+    /// Whether the actions are a plan: each is one of the task and applies in its turn from the opening state, and
+    /// all goals are true in the end.
+    pub fn plan_ok(&self, alloc: Global, plan: &Atoms) -> Result<bool, AllocError>
+        ensures { IfOk result (λ ok. ok ≡ is_plan self.now plan.now) }
+    {
+        let mut state = self.init.copy(alloc)?;
+        for a in plan.as_slice() {
+            if *a >= self.act_count() || !self.applies(&state, *a) {
+                return Ok(false);
+            }
+            state = self.apply(alloc, &state, *a)?;
+        }
+        Ok(has_all(&state, &self.goals))
+    }
+}
+
+/// Whether all the atoms are in the state.
+fn has_all(s: &State, atoms: &Atoms) -> bool
+    ensures { result ≡ list_all (has s.now) atoms.now }
+{
+    atoms.as_slice().iter().all(|p| s.has(*p))
+}
+
+/// How many of the atoms are not in the state.
+fn count_missing(s: &State, atoms: &Atoms) -> usize
+    ensures { result ≡ count_by (λ p. not (has s.now p)) atoms.now }
+{
+    atoms.as_slice().iter().filter(|p| !s.has(**p)).count()
+}
