@@ -2,6 +2,7 @@
 
 use std::alloc::{AllocError, Global};
 use std::test::Fail;
+use std::thread::Threads;
 use wp_app::{Status, run_words};
 use wp_edge::{File, Files, MemShelf, MemSink, Numbers, OpenGate, Text};
 
@@ -55,8 +56,8 @@ fn words(alloc: Global) -> Result<Vec<String>, AllocError> {
 }
 
 /// What `check` writes of a plan, with its status.
-fn checked(
-    rt: &HostRuntime,
+fn checked<R: Threads + Sync>(
+    rt: &R,
     alloc: Global,
     shelf: &mut MemShelf,
     sink: &mut MemSink,
