@@ -1,5 +1,7 @@
 //! `check` over a chain of two actions.
 
+ghost use Rattle.std.specs.Prelude.{◌≤◌};
+
 use std::alloc::{AllocError, Global};
 use std::test::Fail;
 use std::thread::Threads;
