@@ -1,0 +1,5 @@
+pub mod Firsts
+pub mod Steps
+pub mod Orders
+pub mod Sent
+mod Rows

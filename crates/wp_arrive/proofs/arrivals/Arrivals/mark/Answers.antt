@@ -1,0 +1,13 @@
+use Rattle.std.proofs.Common.{◌<◌, ap, sym, ◌∙◌, arith}
+use Rattle.wp_arrive.specs.Seen.{TableId, PassView}
+use Rattle.wp_arrive.proofs.Steps.{marks}
+use Rattle.wp_arrive.proofs.arrivals.Arrivals.mark.Goals as goal
+
+pub fetch_min-requires : goal.fetch_min-requires
+fetch_min-requires c =
+    let words = ap (λ (z : TableId). z.words) c.self.view_is in
+    let near : c.args.t < c.self.inside.table.shared.table_id.words = omega (arith, words, c.requires.place) in (
+      ap (λ (p : PassView). p.table) c.pass.view_is ∙ c.requires.table ∙ sym c.self.view_is,
+      near,
+      marks _ _ _ _ _ _ (omega (arith, near, c.self.invariant.0)) c.requires.number (omega (arith, ap (λ (p : PassView). p.parts) c.pass.view_is, c.requires.part)),
+    )

@@ -1,0 +1,4 @@
+pub mod FirstArrival
+pub mod Seen
+pub mod Rule
+pub mod Laws

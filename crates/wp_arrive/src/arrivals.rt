@@ -1,0 +1,113 @@
+//! The words, and the passes that mark them.
+//!
+//! A table begins with one pass that has all 2^32 parts. A split gives one part to a new pass, and a join takes parts
+//! and marks back. A pass that is dropped keeps its parts, and then nobody can look any more.
+ghost use Rattle.std.specs.Prelude.{◌≡◌, ◌+◌, ◌-◌, ◌^◌, ◌<◌, ◌≤◌, [], ◌∷◌, ◌++◌, IfOk};
+ghost use base.Fml.{ftrue};
+ghost use Rattle.wp_arrive.specs.FirstArrival.{mark, first};
+ghost use Rattle.wp_arrive.specs.Seen.{TableId, table_id_coded, PassView, seen};
+
+use crate::rule::{FirstArrivals, Gives, Looks, Marks};
+use crate::view::View;
+use atomic_table::{Seat, Table};
+use std::alloc::{AllocError, Global};
+use std::marker::Model;
+
+/// A word for each place, the same to all who share it.
+#[derive(Drop)]
+pub struct Arrivals {
+    table: Table<u8, View, u64, FirstArrivals, Global>,
+}
+
+impl Model for Arrivals {
+    ghost Value = { TableId };
+
+    ghost coded = { table_id_coded };
+
+    ghost view = { λ a. a.table.shared.table_id };
+
+    ghost invariant = { λ a. (a.table.shared.key ≡ a.table.shared.table_id.words) × (1 ≤ a.table.shared.table_id.words) × (a.table.shared.table_id.words ≤ 2 ^ 31) };
+}
+
+/// The right to mark a table, with the marks that were made by it. It has no bytes.
+#[derive(Drop)]
+pub struct Pass {
+    seat: Seat<u8, View>,
+}
+
+impl Model for Pass {
+    ghost Value = { PassView };
+
+    ghost view = { λ p. seen p.seat.table_id p.seat.me.0.marks p.seat.me.0.parts };
+
+    ghost invariant = { λ p. p.seat.me.1 ≡ [] };
+
+    ghost also_owns = { λ _. ftrue };
+}
+
+unsafe impl Send for Pass {}
+
+unsafe impl Sync for Pass {}
+
+impl Pass {
+    fn of(seat: Seat<u8, View>) -> Pass
+        requires { seat.me.1 ≡ [] }
+        ensures { result ≡ seen seat.table_id seat.me.0.marks seat.me.0.parts }
+    {
+        Pass { seat }
+    }
+}
+
+impl Arrivals {
+    /// While it is made, the words are held twice.
+    pub fn new(alloc: Global, words: u64) -> Result<(Arrivals, Pass), AllocError>
+        requires { (1 ≤ words) × (words ≤ 2 ^ 31) }
+        ensures { IfOk result (λ r. (r.0.words ≡ words) × (r.1 ≡ seen r.0 [] (2 ^ 32))) }
+    {
+        let opening = vec![in alloc; u64::MAX; words as usize]?;
+        let (table, seat) = Table::of_words(alloc, opening.as_slice(), &words)?;
+        Ok((Arrivals { table }, Pass::of(seat)))
+    }
+
+    /// One atomic minimum.
+    pub fn mark(&self, pass: &mut Pass, t: u64, n: u64)
+        requires table { pass.old.table ≡ self.now }
+        requires part { 0 < pass.old.parts }
+        requires place { t < self.now.words }
+        requires number { n < 2 ^ 64 - 1 }
+        ensures { pass.new ≡ seen pass.old.table (pass.old.marks ++ mark t n ∷ []) pass.old.parts }
+    {
+        self.table
+            .shared
+            .fetch_min::<Marks>(&mut pass.seat, t as usize, n);
+    }
+
+    /// `u64::MAX` where nothing was marked.
+    pub fn look(&self, pass: &mut Pass, t: u64) -> u64
+        requires table { pass.old.table ≡ self.now }
+        requires all { pass.old.parts ≡ 2 ^ 32 }
+        requires place { t < self.now.words }
+        ensures first { result ≡ first pass.old.marks t }
+        ensures same { pass.new ≡ pass.old }
+    {
+        self.table.shared.load::<Looks>(&mut pass.seat, t as usize)
+    }
+
+    pub fn split(&self, pass: &mut Pass) -> Pass
+        requires table { pass.old.table ≡ self.now }
+        requires parts { 2 ≤ pass.old.parts }
+        ensures given { result ≡ seen pass.old.table [] 1 }
+        ensures left { pass.new ≡ seen pass.old.table pass.old.marks (pass.old.parts - 1) }
+    {
+        Pass::of(self.table.shared.split_seat::<Gives>(&mut pass.seat))
+    }
+
+    pub fn join(&self, pass: &mut Pass, other: Pass)
+        requires table { pass.old.table ≡ self.now }
+        requires other { other.table ≡ self.now }
+        ensures { pass.new ≡ seen pass.old.table (pass.old.marks ++ other.marks) (pass.old.parts + other.parts) }
+    {
+        let Pass { seat } = other;
+        self.table.shared.join_seat::<Gives>(&mut pass.seat, seat);
+    }
+}
