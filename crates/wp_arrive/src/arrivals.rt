@@ -50,6 +50,7 @@ unsafe impl Send for Pass {}
 unsafe impl Sync for Pass {}
 
 impl Pass {
+    // The one place where a pass is made, since its proof is by hand.
     fn of(seat: Seat<u8, View>) -> Pass
         requires { seat.me.1 ≡ [] }
         ensures { result ≡ seen seat.table_id seat.me.0.marks seat.me.0.parts }
@@ -59,7 +60,7 @@ impl Pass {
 }
 
 impl Arrivals {
-    /// While it is made, the words are held twice.
+    /// All words say "none yet". While they are made, they are held twice, so it takes 16 bytes a word.
     pub fn new(alloc: Global, words: u64) -> Result<(Arrivals, Pass), AllocError>
         requires { (1 ≤ words) × (words ≤ 2 ^ 31) }
         ensures { IfOk result (λ r. (r.0.words ≡ words) × (r.1 ≡ seen r.0 [] (2 ^ 32))) }
@@ -69,7 +70,7 @@ impl Arrivals {
         Ok((Arrivals { table }, Pass::of(seat)))
     }
 
-    /// One atomic minimum.
+    /// One atomic minimum: it waits for no other thread, and in no order of marks is one lost.
     pub fn mark(&self, pass: &mut Pass, t: u64, n: u64)
         requires table { pass.old.table ≡ self.now }
         requires part { 0 < pass.old.parts }
@@ -82,7 +83,7 @@ impl Arrivals {
             .fetch_min::<Marks>(&mut pass.seat, t as usize, n);
     }
 
-    /// `u64::MAX` where nothing was marked.
+    /// `u64::MAX` where nothing was marked. Only who has all parts may ask: then no thread marks at the same time.
     pub fn look(&self, pass: &mut Pass, t: u64) -> u64
         requires table { pass.old.table ≡ self.now }
         requires all { pass.old.parts ≡ 2 ^ 32 }
@@ -93,6 +94,7 @@ impl Arrivals {
         self.table.shared.load::<Looks>(&mut pass.seat, t as usize)
     }
 
+    /// One part goes to the new pass. No memory is taken.
     pub fn split(&self, pass: &mut Pass) -> Pass
         requires table { pass.old.table ≡ self.now }
         requires parts { 2 ≤ pass.old.parts }
@@ -102,6 +104,7 @@ impl Arrivals {
         Pass::of(self.table.shared.split_seat::<Gives>(&mut pass.seat))
     }
 
+    /// Marks and parts go over. No memory is taken.
     pub fn join(&self, pass: &mut Pass, other: Pass)
         requires table { pass.old.table ≡ self.now }
         requires other { other.table ≡ self.now }

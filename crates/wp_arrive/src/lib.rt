@@ -4,7 +4,8 @@
 //! `look` gives the least number that was marked at a place (`specs/FirstArrival.antt`). Inside, a mark is one atomic
 //! minimum, so no worker waits for another and no order of the marks matters. Passes take no bytes: whoever holds all
 //! parts knows that nobody else has marks, so a word is the first arrival of the marks in hand
-//! (`specs/Rule.antt`). It knows nothing of tuples, nodes or threads.
+//! (`specs/Rule.antt`). It is meant for novelty tables that several workers fill, and knows nothing of
+//! tuples or nodes.
 #![tactic(auto)]
 
 pub mod arrivals;

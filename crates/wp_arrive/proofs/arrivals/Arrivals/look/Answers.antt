@@ -8,6 +8,6 @@ load-requires c =
     let words = ap (λ (z : TableId). z.words) c.self.view_is in
     let near : c.args.t < c.self.inside.table.shared.table_id.words = omega (arith, words, c.requires.place) in (
       ap (λ (p : PassView). p.table) c.pass.view_is ∙ c.requires.table ∙ sym c.self.view_is,
-      near,
+      omega (arith, near),
       looks _ _ _ _ _ (omega (arith, near, c.self.invariant.0)),
     )

@@ -9,5 +9,5 @@ fetch_min-requires c =
     let near : c.args.t < c.self.inside.table.shared.table_id.words = omega (arith, words, c.requires.place) in (
       ap (λ (p : PassView). p.table) c.pass.view_is ∙ c.requires.table ∙ sym c.self.view_is,
       near,
-      marks _ _ _ _ _ _ (omega (arith, near, c.self.invariant.0)) c.requires.number (omega (arith, ap (λ (p : PassView). p.parts) c.pass.view_is, c.requires.part)),
+      marks _ _ _ _ _ _ (omega (arith, near, c.self.invariant.0)) (omega (arith, c.requires.number)) (omega (arith, ap (λ (p : PassView). p.parts) c.pass.view_is, c.requires.part)),
     )
