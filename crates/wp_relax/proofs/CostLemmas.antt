@@ -7,7 +7,7 @@ use Rattle.std.proofs.lemmas.List.Elements.{All-same, All-from_get_or}
 use Rattle.std.proofs.lemmas.List.FromFn.{length-map-range_with_len, get_or-map-range_with_len}
 use Rattle.wp_task.specs.declared.acts.Act.{Act}
 use Rattle.wp_task.specs.Task.{act_at, adders_of}
-use Rattle.wp_relax.specs.AdditiveCost.{infinite, price_of, improved, next_costs, costs_after}
+use Rattle.wp_relax.specs.AdditiveCost.{infinite, price_of, improved, next_costs, costs_after, costs_of}
 
 pub length-costs_after : (acts : List Act) (state : List Bool) (d : ℕ) → length (costs_after acts state d) ≡ length state
 length-costs_after acts state zero = length-map state (λ there. cond there 0 infinite)
@@ -15,7 +15,7 @@ length-costs_after acts state (suc d) =
     length-map-range_with_len (improved acts (costs_after acts state d)) 0 (length (costs_after acts state d))
     ∙ length-costs_after acts state d
 
-first-le : (there : Bool) → cond there 0 infinite ≤ infinite
+pub first-le : (there : Bool) → cond there 0 infinite ≤ infinite
 first-le there = elim there as (λ b. cond b 0 infinite ≤ infinite) [ true ↦ omega arith | false ↦ omega arith ]
 
 -- a running least is at most where it began
@@ -52,12 +52,11 @@ costs_after-bounded acts state (suc d) p =
     omega arith)
     (cases_lt p (length costs))
 
-pub length-rounds : (acts : List Act) (state : List Bool) (d : ℕ) (costs : List ℕ) → costs ≡ costs_after acts state d →
-    length costs ≡ length state
-length-rounds acts state d costs is = ap length is ∙ length-costs_after acts state d
+pub length-costs_of : (acts : List Act) (state : List Bool) (costs : List ℕ) → costs ≡ costs_of acts state → length costs ≡ length state
+length-costs_of acts state costs is = ap length is ∙ length-costs_after acts state (length state)
 
-pub bounded-rounds : (acts : List Act) (state : List Bool) (d : ℕ) (costs : List ℕ) → costs ≡ costs_after acts state d →
+pub costs_of-bounded : (acts : List Act) (state : List Bool) (costs : List ℕ) → costs ≡ costs_of acts state →
     All (λ cost. cost ≤ infinite) costs
-bounded-rounds acts state d costs is =
-    All-same (λ cost. cost ≤ infinite) costs (costs_after acts state d) is
-    (All-from_get_or (λ cost. cost ≤ infinite) (costs_after acts state d) 0 (λ p within. costs_after-bounded acts state d p))
+costs_of-bounded acts state costs is =
+    All-same (λ cost. cost ≤ infinite) costs (costs_of acts state) is
+    (All-from_get_or (λ cost. cost ≤ infinite) (costs_of acts state) 0 (λ p within. costs_after-bounded acts state (length state) p))

@@ -1,9 +1,21 @@
 pub mod CostLemmas
 pub mod FlagLemmas
 pub mod PlanLemmas
+pub mod Looking
+pub mod NeederLemmas
+pub mod OfferLemmas
+pub mod StepLemmas
 pub mod SumLemmas
 pub mod Settling
 pub mod Unique
 pub mod SupporterLemmas
 pub mod SupporterExists
+pub mod Growing
+pub mod LeastWanted
+pub mod Listed
+pub mod OrderLemmas
+pub mod FrontierLemmas
+pub mod InOrder
+pub mod OneSettled
+pub mod Reach
 mod Rows

@@ -1,16 +1,16 @@
--- Actions put into their order one by one, and the atoms of a set in order.
-use Rattle.std.proofs.Common.{◌≡◌, ◌<◌, ◌+◌, ◌∷◌, [], not, ℕ, suc, Bool, true, false, cond, List, length, get_or, refl, sym, ap, ◌∙◌, ⊎_elim, arith}
-use Rattle.std.specs.List.{All, filter, fold, insert, position_or_len, prefix_len, range_with_len}
+-- Actions put into their place, and the numbers of a set in order.
+use Rattle.std.proofs.Common.{◌≡◌, ◌<◌, ◌+◌, ◌++◌, ◌∷◌, [], not, ℕ, suc, Bool, true, false, cond, List, length, map, get_or, refl, sym, ap, ◌∙◌, ⊎_elim, arith}
+use Rattle.std.specs.List.{All, filter, insert, position_or_len, prefix_len, range_with_len}
 use Rattle.std.specs.List.Sorted.{IsStrictlyIncreasing}
 use Rattle.std.proofs.lemmas.Bool.{cases_Bool}
+use Rattle.std.proofs.lemmas.List.{map-append}
 use Rattle.std.proofs.lemmas.List.Elements.{All-filter}
 use Rattle.std.proofs.lemmas.List.FromFn.{get_or-range_with_len, length-range_with_len}
 use Rattle.std.proofs.lemmas.List.Kept.{IsStrictlyIncreasing-filter}
-use Rattle.std.proofs.lemmas.List.Sums.{fold-append}
 use Rattle.wp_task.specs.Set.{has, atoms_in}
 use Rattle.wp_task.proofs.AddersLemmas.{filter-range_more}
 use Rattle.wp_task.proofs.TaskLemmas.{range_below}
-use Rattle.wp_relax.specs.RelaxedPlan.{is_sooner, put_in, in_order}
+use Rattle.wp_relax.specs.RelaxedPlan.{is_sooner, put_in}
 
 pub put_in-insert : (price : ℕ → ℕ) (xs : List ℕ) (a : ℕ) →
     insert xs (position_or_len (is_sooner price a) xs) a ≡ put_in price xs a
@@ -30,20 +30,18 @@ put_in-insert price (b ∷ xs) a =
     ∙ sym (ap (λ (v : Bool). cond v (a ∷ b ∷ xs) (b ∷ put_in price xs a)) later))))
     (cases_Bool (t b))
 
-fold_if : (f : List ℕ → ℕ → List ℕ) (acc : List ℕ) (n : ℕ) (b : Bool) → fold f acc (cond b (n ∷ []) []) ≡ cond b (f acc n) acc
-fold_if f acc n true = refl
-fold_if f acc n false = refl
+map_if : {Y : Type 0} (key : ℕ → Y) (n : ℕ) (b : Bool) → map key (cond b (n ∷ []) []) ≡ cond b (key n ∷ []) []
+map_if key n true = refl
+map_if key n false = refl
 
-pub in_order-more : (price : ℕ → ℕ) (t : ℕ → Bool) (n : ℕ) →
-    in_order price (filter t (range_with_len 0 (n + 1)))
-    ≡ cond (t n) (put_in price (in_order price (filter t (range_with_len 0 n))) n) (in_order price (filter t (range_with_len 0 n)))
-in_order-more price t n =
+pub map-filter_more : {Y : Type 0} (key : ℕ → Y) (t : ℕ → Bool) (n : ℕ) →
+    map key (filter t (range_with_len 0 (n + 1))) ≡ map key (filter t (range_with_len 0 n)) ++ cond (t n) (key n ∷ []) []
+map-filter_more key t n =
     let before = filter t (range_with_len 0 n) in
-    ap (in_order price) (filter-range_more t n)
-    ∙ (fold-append (put_in price) [] before (cond (t n) (n ∷ []) [])
-    ∙ fold_if (put_in price) (in_order price before) n (t n))
+    ap (map key) (filter-range_more t n)
+    ∙ (map-append key before (cond (t n) (n ∷ []) []) ∙ ap (λ l. map key before ++ l) (map_if key n (t n)))
 
-range_rises : (n : ℕ) → IsStrictlyIncreasing (range_with_len 0 n)
+pub range_rises : (n : ℕ) → IsStrictlyIncreasing (range_with_len 0 n)
 range_rises n = λ k within.
     let short : k + 1 < n = omega (arith, length-range_with_len 0 n) in
     let here : get_or (range_with_len 0 n) k 0 ≡ 0 + k = get_or-range_with_len 0 n k 0 (omega arith) in

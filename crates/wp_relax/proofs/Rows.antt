@@ -1,9 +1,11 @@
 -- Worked rows of the definitions, each computed.
-use Rattle.std.specs.Prelude.{◌≡◌, ◌^◌, List, [], ◌∷◌, Some, None, refl}
+use Rattle.std.specs.Prelude.{◌≡◌, ◌^◌, List, [], ◌∷◌, map, Some, None, refl}
 use Rattle.wp_task.specs.declared.acts.Act.{Act}
 use Rattle.wp_task.specs.Set.{set_of}
+use Rattle.wp_task.specs.Task.{leads_to}
 use Rattle.wp_relax.specs.AdditiveCost.{costs_of, pricing_of}
 use Rattle.wp_relax.specs.RelaxedPlan.{relaxed_plan_of, relaxed_atoms_of}
+use Rattle.wp_relax.specs.Laws.{without_deletes}
 
 -- a chain: a gives b, b gives c and takes a away
 abbrev chain : List Act
@@ -47,6 +49,16 @@ trap_costs = refl
 
 trap_atoms : relaxed_atoms_of trap (2 ∷ []) (set_of (0 ∷ []) 6) ≡ 1 ∷ 2 ∷ []
 trap_atoms = refl
+
+-- the cheap way is a relaxed plan alone: its first action takes s away, which the second needs
+trap_plan : relaxed_plan_of trap (2 ∷ []) (set_of (0 ∷ []) 6) ≡ Some (0 ∷ 1 ∷ [])
+trap_plan = refl
+
+trap_blocked : leads_to trap (set_of (0 ∷ []) 6) (0 ∷ 1 ∷ []) ≡ None
+trap_blocked = refl
+
+trap_reached : leads_to (map without_deletes trap) (set_of (0 ∷ []) 6) (0 ∷ 1 ∷ []) ≡ Some (set_of (0 ∷ 1 ∷ 2 ∷ []) 6)
+trap_reached = refl
 
 -- once s is spent the long way alone is left
 trap_spent : relaxed_plan_of trap (2 ∷ []) (set_of (1 ∷ []) 6) ≡ Some (2 ∷ 3 ∷ 4 ∷ 5 ∷ [])

@@ -85,7 +85,7 @@ pub record IsChain (acts : List Act) (state : List Bool) (d p : ℕ) (atoms : Li
   pub within : (x : ℕ) → In x atoms → x < length state
   pub cheap : (x : ℕ) → In x atoms → cost_after acts state (suc d) x ≤ cost_after acts state (suc d) p
 
-apart_from_all : (p : ℕ) (xs : List ℕ) → ((x : ℕ) → In x xs → p ≡ x → ⊥) → IsDistinct eqb xs → IsDistinct eqb (p ∷ xs)
+pub apart_from_all : (p : ℕ) (xs : List ℕ) → ((x : ℕ) → In x xs → p ≡ x → ⊥) → IsDistinct eqb xs → IsDistinct eqb (p ∷ xs)
 apart_from_all p xs apart distinct =
     IsDistinct-cons eqb p xs
     (recursion_from_All (λ y. eqb p y ≡ false) xs

@@ -1,14 +1,16 @@
 -- A supporter attains the atom's cost, so what it needs costs less.
-use Rattle.std.proofs.Common.{◌≡◌, ◌==◌, ◌<◌, ◌≤◌, ℕ, nat_lt, Bool, true, false, cond, List, [], ◌∷◌, Some, None, get_or, eqb, sym, ap, ◌∙◌, subst, ⊎_elim, arith}
+use Rattle.std.proofs.Common.{◌≡◌, ◌==◌, ◌<◌, ◌≤◌, ℕ, nat_lt, Bool, true, false, cond, List, [], ◌∷◌, Option, Some, None, map, get_or, eqb, refl, sym, ap, ◌∙◌, subst, inl, inr, ⊎_elim, arith}
 use Rattle.std.specs.List.{find, sum_by}
-use Rattle.std.proofs.lemmas.Bool.{cases_Bool, ltb-true, eqb-true}
+use Rattle.std.proofs.lemmas.Bool.{cases_Bool, cond-true, cond-false, ltb-true, lt-ltb, eqb-true}
+use Rattle.std.proofs.lemmas.List.{get_or-map}
 use Rattle.wp_task.specs.declared.acts.Act.{Act}
 use Rattle.wp_task.specs.Set.{has}
 use Rattle.wp_task.specs.Task.{act_at, adders_of}
 use Rattle.wp_task.proofs.Members.{In, list_any-at}
 use Rattle.wp_relax.specs.AdditiveCost.{infinite, price_of, supporter_of}
-use Rattle.wp_relax.specs.Laws.{SupportersNeedLess}
+use Rattle.wp_relax.specs.Laws.{IsAdder, SupportersNeedLess}
 use Rattle.wp_relax.proofs.SumLemmas.{member-le-sum}
+use Rattle.wp_relax.proofs.Unique.{adder-from}
 
 find-passes : (t : ℕ → Bool) (xs : List ℕ) (a : ℕ) → find t xs ≡ Some a → t a ≡ true
 find-passes t [] a found = absurd (cc)
@@ -20,12 +22,44 @@ find-passes t (x ∷ xs) a found = ⊎_elim
     (λ (later : t x ≡ false). find-passes t xs a (sym (ap (λ (b : Bool). cond b (Some x) (find t xs)) later) ∙ found))
     (cases_Bool (t x))
 
--- where an atom has a supporter its cost is finite, and the supporter's price
-pub supporter-is : (acts : List Act) (state : List Bool) (costs : List ℕ) (p a : ℕ) → supporter_of acts state costs p ≡ Some a →
-    (get_or costs p 0 < infinite) × (price_of costs (act_at acts a) ≡ get_or costs p 0)
-supporter-is acts state costs p a is =
-    let t : ℕ → Bool = λ b. price_of costs (act_at acts b) == get_or costs p 0 in
-    let among = find t (adders_of acts p) in
+find-in : (t : ℕ → Bool) (xs : List ℕ) (a : ℕ) → find t xs ≡ Some a → In a xs
+find-in t [] a found = absurd (cc)
+find-in t (x ∷ xs) a found = ⊎_elim
+    (λ (here : t x ≡ true).
+    let is : Some x ≡ Some a = sym (ap (λ (b : Bool). cond b (Some x) (find t xs)) here) ∙ found in
+    let same : a ≡ x = cc in
+    inl same)
+    (λ (later : t x ≡ false). inr (find-in t xs a (sym (ap (λ (b : Bool). cond b (Some x) (find t xs)) later) ∙ found)))
+    (cases_Bool (t x))
+
+-- the test may go by a table of the prices
+find-same : (t s : ℕ → Bool) (xs : List ℕ) → ((a : ℕ) → In a xs → t a ≡ s a) → find t xs ≡ find s xs
+find-same t s [] same = refl
+find-same t s (x ∷ xs) same =
+    (λ j. cond (same x (inl refl) j) (Some x) (find-same t s xs (λ a later. same a (inr later)) j))
+
+pub find-prices : (acts : List Act) (costs prices : List ℕ) (p cost : ℕ) → prices ≡ map (price_of costs) acts →
+    find (λ a. get_or prices a 0 == cost) (adders_of acts p) ≡ find (λ a. price_of costs (act_at acts a) == cost) (adders_of acts p)
+find-prices acts costs prices p cost is =
+    find-same (λ a. get_or prices a 0 == cost) (λ a. price_of costs (act_at acts a) == cost) (adders_of acts p)
+    (λ a there.
+    let adder : IsAdder acts p a = adder-from acts p a there in
+    ap (λ n. n == cost) (ap (λ (l : List ℕ). get_or l a 0) is ∙ get_or-map (price_of costs) acts a (act_at [] 0) 0 adder.number))
+
+-- the supporter of an atom that is not in the state and has a finite cost
+pub supporter_of-found : (acts : List Act) (state : List Bool) (costs : List ℕ) (p : ℕ) (found : Option ℕ) → has state p ≡ false →
+    get_or costs p 0 < infinite → found ≡ find (λ a. price_of costs (act_at acts a) == get_or costs p 0) (adders_of acts p) →
+    found ≡ supporter_of acts state costs p
+supporter_of-found acts state costs p found lacks small is =
+    let among = find (λ a. price_of costs (act_at acts a) == get_or costs p 0) (adders_of acts p) in
+    let finite = nat_lt (get_or costs p 0) infinite in
+    is ∙ sym (cond-false (has state p) None (cond finite among None) lacks ∙ cond-true finite among None (lt-ltb (get_or costs p 0) infinite small))
+
+-- where an atom has a supporter its cost is finite, and the supporter is found among the adders
+supporter-found : (acts : List Act) (state : List Bool) (costs : List ℕ) (p a : ℕ) → supporter_of acts state costs p ≡ Some a →
+    (get_or costs p 0 < infinite) × (find (λ b. price_of costs (act_at acts b) == get_or costs p 0) (adders_of acts p) ≡ Some a)
+supporter-found acts state costs p a is =
+    let among = find (λ b. price_of costs (act_at acts b) == get_or costs p 0) (adders_of acts p) in
     let finite = nat_lt (get_or costs p 0) infinite in
     ⊎_elim
     (λ (there : has state p ≡ true).
@@ -35,13 +69,28 @@ supporter-is acts state costs p a is =
     ⊎_elim
     (λ (small : finite ≡ true).
     let found : among ≡ Some a = sym (ap (λ (b : Bool). cond b among None) small) ∙ rest in
-    let both : (get_or costs p 0 < infinite) × (price_of costs (act_at acts a) ≡ get_or costs p 0) =
-    (ltb-true (get_or costs p 0) infinite small, eqb-true (price_of costs (act_at acts a)) (get_or costs p 0) (find-passes t (adders_of acts p) a found)) in
+    let both : (get_or costs p 0 < infinite) × (among ≡ Some a) = (ltb-true (get_or costs p 0) infinite small, found) in
     both)
     (λ (large : finite ≡ false).
     let none : None ≡ Some a = sym (ap (λ (b : Bool). cond b among None) large) ∙ rest in absurd (cc))
     (cases_Bool finite))
     (cases_Bool (has state p))
+
+-- the cost of such an atom is the supporter's price
+pub supporter-is : (acts : List Act) (state : List Bool) (costs : List ℕ) (p a : ℕ) → supporter_of acts state costs p ≡ Some a →
+    (get_or costs p 0 < infinite) × (price_of costs (act_at acts a) ≡ get_or costs p 0)
+supporter-is acts state costs p a is =
+    let t : ℕ → Bool = λ b. price_of costs (act_at acts b) == get_or costs p 0 in
+    let found = supporter-found acts state costs p a is in
+    let both : (get_or costs p 0 < infinite) × (price_of costs (act_at acts a) ≡ get_or costs p 0) =
+    (found.0, eqb-true (price_of costs (act_at acts a)) (get_or costs p 0) (find-passes t (adders_of acts p) a found.1)) in
+    both
+
+pub supporter-adds : (acts : List Act) (state : List Bool) (costs : List ℕ) (p a : ℕ) → supporter_of acts state costs p ≡ Some a →
+    IsAdder acts p a
+supporter-adds acts state costs p a is =
+    adder-from acts p a (find-in (λ b. price_of costs (act_at acts b) == get_or costs p 0) (adders_of acts p) a
+    (supporter-found acts state costs p a is).1)
 
 pub supporters_need_less : SupportersNeedLess
 supporters_need_less acts state costs p a q is needed =

@@ -1,12 +1,11 @@
 -- One table of costs meets the fixpoint facts. By induction on the cost: a finite price is above the costs of the
 -- preconditions, so these agree first.
-use Rattle.std.proofs.Common.{◌≡◌, ◌⊎◌, ◌<◌, ◌≤◌, ◌+◌, ℕ, zero, suc, Bool, true, false, cond, List, [], ◌∷◌, length, map, get_or, refl, sym, ap, ◌∙◌, subst, inl, inr, ⊎_elim, arith}
+use Rattle.std.proofs.Common.{◌≡◌, ◌⊎◌, ◌<◌, ◌≤◌, ◌+◌, ℕ, zero, suc, Bool, true, false, cond, List, length, map, get_or, sym, ap, ◌∙◌, subst, inl, inr, ⊎_elim, arith}
 use Rattle.std.specs.List.{sum_by, range_with_len}
 use Rattle.std.proofs.lemmas.Bool.{cases_lt, cases_Bool, both_ways}
 use Rattle.std.proofs.lemmas.List.{ext_get_or, get_or_past, get_or-map}
 use Rattle.std.proofs.lemmas.List.Elements.{All-contains}
 use Rattle.std.proofs.lemmas.List.FromFn.{get_or-range_with_len, length-range_with_len}
-use Rattle.std.proofs.lemmas.List.Sums.{sum_by-cons}
 use Rattle.wp_task.specs.declared.acts.Act.{Act}
 use Rattle.wp_task.specs.Set.{has, lists}
 use Rattle.wp_task.specs.Task.{act_at, adders_of}
@@ -16,14 +15,9 @@ use Rattle.wp_relax.specs.AdditiveCost.{infinite, price_of, improved, costs_afte
 use Rattle.wp_relax.specs.Laws.{IsAdder, IsFixed, OneTable}
 use Rattle.wp_relax.proofs.CostLemmas.{length-costs_after, costs_after-bounded}
 use Rattle.wp_relax.proofs.Settling.{cost_after, next-at, falls, costs_settle}
-use Rattle.wp_relax.proofs.SumLemmas.{fold_min-cases, fold_min-le, member-le-sum}
+use Rattle.wp_relax.proofs.SumLemmas.{fold_min-cases, fold_min-le, member-le-sum, sum-le}
 
-sum-le : (f g : ℕ → ℕ) (xs : List ℕ) → ((q : ℕ) → In q xs → f q ≤ g q) → sum_by f xs ≤ sum_by g xs
-sum-le f g [] each = omega arith
-sum-le f g (x ∷ xs) each =
-    omega (arith, sum_by-cons f x xs, sum_by-cons g x xs, each x (inl refl), sum-le f g xs (λ q later. each q (inr later)))
-
-price-le : (b c : List ℕ) (act : Act) → ((q : ℕ) → In q act.pre → get_or b q 0 ≤ get_or c q 0) → price_of b act ≤ price_of c act
+pub price-le : (b c : List ℕ) (act : Act) → ((q : ℕ) → In q act.pre → get_or b q 0 ≤ get_or c q 0) → price_of b act ≤ price_of c act
 price-le b c act each =
     let sums : sum_by (λ k. get_or b k 0) act.pre ≤ sum_by (λ k. get_or c k 0) act.pre =
     sum-le (λ k. get_or b k 0) (λ k. get_or c k 0) act.pre each in
@@ -38,7 +32,7 @@ adder-in acts p a adder =
     (In-at a (range_with_len 0 (length acts)) a (let n : a < length acts = adder.number in omega (arith, length-range_with_len 0 (length acts))) place)
     adder.adds
 
-adder-from : (acts : List Act) (p a : ℕ) → In a (adders_of acts p) → IsAdder acts p a
+pub adder-from : (acts : List Act) (p a : ℕ) → In a (adders_of acts p) → IsAdder acts p a
 adder-from acts p a there = record {
   number = All-contains (λ b. b < length acts) (adders_of acts p) a (adders_below acts p) (Contains-from_In a (adders_of acts p) there);
   adds = (In-filter_cases (λ b. lists (act_at acts b).add p) (range_with_len 0 (length acts)) a there).1;

@@ -1,9 +1,10 @@
--- What holds of additive costs and supporters, whatever the actions are.
-use Rattle.std.specs.Prelude.{◌≡◌, ◌⊎◌, ◌↔◌, ◌<◌, ◌≤◌, ℕ, Bool, true, List, length, slice_index, Some, None}
+-- What holds of additive costs, supporters, wanted atoms and relaxed plans, whatever the actions are.
+use Rattle.std.specs.Prelude.{◌≡◌, ◌⊎◌, ◌↔◌, ◌<◌, ◌≤◌, ℕ, Bool, true, false, All, IfSome, List, [], length, map, slice_index, slice_index_or, Option, Some, None}
 use Rattle.wp_task.specs.declared.acts.Act.{Act}
 use Rattle.wp_task.specs.Set.{has, lists}
-use Rattle.wp_task.specs.Task.{act_at}
+use Rattle.wp_task.specs.Task.{act_at, leads_to, has_goals, IsAct}
 use Rattle.wp_relax.specs.AdditiveCost.{infinite, price_of, next_costs, costs_of, supporter_of}
+use Rattle.wp_relax.specs.RelaxedPlan.{needs, wanted_of, relaxed_plan_of}
 
 -- a further round changes nothing
 abbrev pub CostsSettle : Type 0
@@ -38,3 +39,32 @@ abbrev pub SupportersAreThere : Type 0
 SupportersAreThere = (acts : List Act) (state : List Bool) (p : ℕ) → p < length state →
     (supporter_of acts state (costs_of acts state) p ≡ None)
     ↔ ((has state p ≡ true) ⊎ (infinite ≤ slice_index (costs_of acts state) p))
+
+-- the set has each goal that the state lacks, and with each of its atoms whatever the atom's supporter needs and the
+-- state lacks
+pub record HasWanted (acts : List Act) (goals : List ℕ) (state : List Bool) (supporters : List (Option ℕ)) (set : List Bool) : Type 0 where
+  pub unmet : (p : ℕ) → p < length state → lists goals p ≡ true → has state p ≡ false → has set p ≡ true
+  pub closed : (p q : ℕ) → q < length state → has set p ≡ true → needs acts (slice_index_or supporters p None) q ≡ true →
+      has state q ≡ false → has set q ≡ true
+
+-- the set is one of these, and is within each of them
+pub record IsLeastWanted (acts : List Act) (goals : List ℕ) (state : List Bool) (supporters : List (Option ℕ)) (set : List Bool) : Type 0 where
+  pub size : length set ≡ length state
+  pub wanted : HasWanted acts goals state supporters set
+  pub least : (other : List Bool) → HasWanted acts goals state supporters other → (p : ℕ) → has set p ≡ true → has other p ≡ true
+
+-- the wanted atoms are the least set that has them, however it is made
+abbrev pub WantedAreLeast : Type 0
+WantedAreLeast = (acts : List Act) (goals : List ℕ) (state : List Bool) (supporters : List (Option ℕ)) (set : List Bool) →
+    IsLeastWanted acts goals state supporters set ↔ (set ≡ wanted_of acts goals state supporters)
+
+-- the action under the delete relaxation
+abbrev pub without_deletes : Act → Act
+without_deletes act = record act { del = [] }
+
+-- the relaxed plan reaches the goals: carried out in its order without deletes, each action applies in its turn, and
+-- all goals hold at the end
+abbrev pub RelaxedPlansReach : Type 0
+RelaxedPlansReach = (acts : List Act) (goals : List ℕ) (state : List Bool) → All (IsAct (length state)) acts →
+    All (λ p. p < length state) goals →
+    IfSome (relaxed_plan_of acts goals state) (λ plan. has_goals goals (leads_to (map without_deletes acts) state plan) ≡ true)

@@ -1,3 +1,4 @@
 pub mod AdditiveCost
+pub mod Frontier
 pub mod RelaxedPlan
 pub mod Laws

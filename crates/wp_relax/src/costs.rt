@@ -1,17 +1,15 @@
 //! The additive costs of a state.
-ghost use Rattle.std.specs.Prelude.{◌≡◌, ◌==◌, [], ℕ, ◌+◌, ◌<◌, ◌≤◌, map, length, slice_index, slice_index_or, IfOk, IfSome, All, None, find, nat_lt, if◌then◌else◌};
-ghost use Rattle.std.specs.List.{range_with_len};
-ghost use Rattle.wp_task.specs.Set.{has, AreAtoms};
-ghost use Rattle.wp_task.specs.Task.{act_at, IsTask};
-ghost use Rattle.wp_relax.specs.AdditiveCost.{infinite, price_of, improved, next_costs, costs_after, costs_of, finite, supporter_of, supporters_of, pricing_of};
+ghost use Rattle.std.specs.Prelude.{◌≡◌, ◌==◌, ℕ, ◌+◌, ◌<◌, ◌≤◌, map, length, slice_index, slice_index_or, IfOk, IfSome, All, None, find, nat_lt};
+ghost use Rattle.wp_task.specs.Set.{AreAtoms};
+ghost use Rattle.wp_task.specs.Task.{IsTask};
+ghost use Rattle.wp_relax.specs.AdditiveCost.{infinite, price_of, costs_of, finite, supporter_of, supporters_of, pricing_of};
 ghost use Rattle.wp_relax.specs.RelaxedPlan.{AreActs};
 
+use crate::frontier::INFINITE;
+use crate::settle;
 use std::alloc::{AllocError, Global};
 use std::marker::Model;
 use wp_task::{Act, Atoms, State, Task};
-
-/// An infinite cost.
-const INFINITE: u64 = 1 << 60;
 
 /// The costs of all atoms in a state, and their supporters.
 #[derive(Drop)]
@@ -40,10 +38,7 @@ impl Costs {
         ensures bounded { IfOk result (λ costs. All (λ cost. cost ≤ infinite) costs.costs) }
         ensures numbers { IfOk result (λ costs. AreActs (length task.now.acts) costs.supporters) }
     {
-        let mut costs = first_costs(alloc, s)?;
-        for _round in 0..s.size() {
-            costs = costs_after_round(alloc, task, &costs)?;
-        }
+        let costs = settle::settled_costs(alloc, task, s)?;
         let supporters = supporters(alloc, task, s, &costs)?;
         Ok(Costs { costs, supporters })
     }
@@ -83,50 +78,6 @@ impl Costs {
     }
 }
 
-/// 0 at the atoms of the state, and infinite elsewhere.
-fn first_costs(alloc: Global, s: &State) -> Result<Vec<u64>, AllocError>
-    ensures { IfOk result (λ costs. costs.items ≡ costs_after [] s.now 0) }
-{
-    let mut costs = Vec::with_capacity(alloc, s.size() as usize)?;
-    for p in 0..s.size() {
-        costs.push(first_cost(s.has(p)))?;
-    }
-    Ok(costs)
-}
-
-fn first_cost(there: bool) -> u64
-    ensures { result ≡ (if there then 0 else infinite) }
-{
-    if there { 0 } else { INFINITE }
-}
-
-/// The costs after one more round.
-fn costs_after_round(alloc: Global, task: &Task, costs: &[u64]) -> Result<Vec<u64>, AllocError>
-    requires size { length costs.now ≡ task.now.atoms }
-    requires bounded { All (λ cost. cost ≤ infinite) costs.now }
-    ensures { IfOk result (λ next. next.items ≡ next_costs task.now.acts costs.now) }
-{
-    let mut next = Vec::with_capacity(alloc, costs.len())?;
-    for p in 0..task.atoms() {
-        next.push(improved(task, costs, p))?;
-    }
-    Ok(next)
-}
-
-/// The least of an atom's cost and the prices of its adders.
-fn improved(task: &Task, costs: &[u64], p: u32) -> u64
-    requires size { length costs.now ≡ task.now.atoms }
-    requires bounded { All (λ cost. cost ≤ infinite) costs.now }
-    requires atom { p < task.now.atoms }
-    ensures { result ≡ improved task.now.acts costs.now p }
-{
-    let mut least = costs[p as usize];
-    for a in task.adders(p).as_slice() {
-        least = least.min(price(task.act(*a), costs));
-    }
-    least
-}
-
 /// 1 and the costs of the preconditions, at most infinite.
 fn price(act: &Act, costs: &[u64]) -> u64
     requires bounded { All (λ cost. cost ≤ infinite) costs.now }
@@ -138,6 +89,19 @@ fn price(act: &Act, costs: &[u64]) -> u64
         total = INFINITE.min(total + costs[*q as usize]);
     }
     total
+}
+
+/// The prices of all actions.
+fn prices(alloc: Global, task: &Task, costs: &[u64]) -> Result<Vec<u64>, AllocError>
+    requires size { length costs.now ≡ task.now.atoms }
+    requires bounded { All (λ cost. cost ≤ infinite) costs.now }
+    ensures { IfOk result (λ prices. prices.items ≡ map (price_of costs.now) task.now.acts) }
+{
+    let mut prices = Vec::with_capacity(alloc, task.act_count() as usize)?;
+    for a in 0..task.act_count() {
+        prices.push(price(task.act(a), costs))?;
+    }
+    Ok(prices)
 }
 
 /// The best supporters of all atoms.
@@ -153,17 +117,18 @@ fn supporters(
     ensures value { IfOk result (λ supporters. supporters.items ≡ supporters_of task.now.acts s.now costs.now) }
     ensures numbers { IfOk result (λ supporters. AreActs (length task.now.acts) supporters.items) }
 {
+    let prices = prices(alloc, task, costs)?;
     let mut supporters = Vec::with_capacity(alloc, costs.len())?;
     for p in 0..task.atoms() {
-        supporters.push(supporter_of(task, s, costs, p))?;
+        supporters.push(supporter_of(task, s, costs, &prices, p))?;
     }
     Ok(supporters)
 }
 
 /// The best supporter of an atom.
-fn supporter_of(task: &Task, s: &State, costs: &[u64], p: u32) -> Option<u32>
+fn supporter_of(task: &Task, s: &State, costs: &[u64], prices: &[u64], p: u32) -> Option<u32>
     requires size { length costs.now ≡ task.now.atoms }
-    requires bounded { All (λ cost. cost ≤ infinite) costs.now }
+    requires prices { prices.now ≡ map (price_of costs.now) task.now.acts }
     requires atom { p < task.now.atoms }
     ensures value { result ≡ supporter_of task.now.acts s.now costs.now p }
     ensures number { IfSome result (λ a. a < length task.now.acts) }
@@ -172,19 +137,17 @@ fn supporter_of(task: &Task, s: &State, costs: &[u64], p: u32) -> Option<u32>
     if s.has(p) || cost >= INFINITE {
         return None;
     }
-    first_at(task, costs, task.adders(p), cost)
+    first_at(prices, task.adders(p), cost)
 }
 
 /// The first of some actions whose price is the given one.
-fn first_at(task: &Task, costs: &[u64], acts: &Atoms, cost: u64) -> Option<u32>
-    requires size { length costs.now ≡ task.now.atoms }
-    requires bounded { All (λ cost. cost ≤ infinite) costs.now }
-    requires numbers { All (λ a. a < length task.now.acts) acts.now }
-    ensures value { result ≡ find (λ a. price_of costs.now (act_at task.now.acts a) == cost) acts.now }
-    ensures number { IfSome result (λ a. a < length task.now.acts) }
+fn first_at(prices: &[u64], acts: &Atoms, cost: u64) -> Option<u32>
+    requires { All (λ a. a < length prices.now) acts.now }
+    ensures value { result ≡ find (λ a. slice_index prices.now a == cost) acts.now }
+    ensures number { IfSome result (λ a. a < length prices.now) }
 {
     for a in acts.as_slice() {
-        if price(task.act(*a), costs) == cost {
+        if prices[*a as usize] == cost {
             return Some(*a);
         }
     }

@@ -1,10 +1,10 @@
 //! Relaxed plans, and the atoms that they add.
-ghost use Rattle.std.specs.Prelude.{◌≡◌, ◌++◌, ◌∷◌, [], ◌&&◌, ◌||◌, not, ℕ, ◌<◌, ◌≤◌, ◌^◌, length, filter, IfOk, IfSome, OnOk, All, Some, if◌then◌else◌};
-ghost use Rattle.std.specs.List.{position_or_len, range_with_len};
+ghost use Rattle.std.specs.Prelude.{◌≡◌, ◌++◌, ◌∷◌, [], ◌&&◌, ◌||◌, not, ℕ, ◌<◌, ◌≤◌, ◌^◌, length, map, filter, IfOk, IfSome, OnOk, All, Some, if◌then◌else◌};
+ghost use Rattle.std.specs.List.{range_with_len};
 ghost use Rattle.wp_task.specs.Set.{has, lists, atoms_in};
 ghost use Rattle.wp_task.specs.Task.{act_at};
 ghost use Rattle.wp_relax.specs.AdditiveCost.{infinite, price_of};
-ghost use Rattle.wp_relax.specs.RelaxedPlan.{is_for, supports, is_sooner, put_in, in_order, in_reach, relaxed_plan_of, is_added, added_by, relaxed_atoms_of, AreActs};
+ghost use Rattle.wp_relax.specs.RelaxedPlan.{is_for, supports, in_order, in_reach, relaxed_plan_of, is_added, added_by, relaxed_atoms_of, AreActs};
 
 use crate::costs::Costs;
 use crate::wanted;
@@ -65,11 +65,56 @@ fn supporters_in_order(
     ensures numbers { IfOk result (λ plan. All (λ a. a < length task.now.acts) plan) }
 {
     let supporting = supporting(alloc, task, costs, wanted)?;
-    let mut plan = Vec::new(alloc);
+    let mut priced = with_prices(alloc, task, costs, &supporting)?;
+    priced.sort_unstable();
+    without_prices(alloc, &priced)
+}
+
+/// The actions of a set in number order, each after its price.
+fn with_prices(
+    alloc: Global,
+    task: &Task,
+    costs: &Costs,
+    set: &[bool],
+) -> Result<Vec<(u64, u32)>, AllocError>
+    requires size { length costs.now.costs ≡ task.now.atoms }
+    requires bounded { All (λ cost. cost ≤ infinite) costs.now.costs }
+    requires flags { length set.now ≡ length task.now.acts }
+    ensures { IfOk result (λ priced. priced.items ≡ map (λ a. (price_of costs.now.costs (act_at task.now.acts a), a)) (filter (has set.now) (range_with_len 0 (length task.now.acts)))) }
+{
+    let mut priced = Vec::new(alloc);
     for a in 0..task.act_count() {
-        put_if(&mut plan, task, costs, a, supporting[a as usize])?;
+        push_price_if(&mut priced, task, costs, a, set[a as usize])?;
     }
-    Ok(Atoms::of_vec(plan))
+    Ok(priced)
+}
+
+fn push_price_if(
+    priced: &mut Vec<(u64, u32)>,
+    task: &Task,
+    costs: &Costs,
+    a: u32,
+    wished: bool,
+) -> Result<(), AllocError>
+    requires size { length costs.now.costs ≡ task.now.atoms }
+    requires bounded { All (λ cost. cost ≤ infinite) costs.now.costs }
+    requires number { a < length task.now.acts }
+    ensures { OnOk result (priced.new.items ≡ priced.old.items ++ (if wished then (price_of costs.now.costs (act_at task.now.acts a), a) ∷ [] else [])) }
+{
+    if wished {
+        priced.push((costs.price(task.act(a)), a))?;
+    }
+    Ok(())
+}
+
+fn without_prices(alloc: Global, priced: &[(u64, u32)]) -> Result<Atoms, AllocError>
+    ensures { IfOk result (λ numbers. numbers ≡ map (λ k. k.1) priced.now) }
+{
+    let mut numbers = Vec::with_capacity(alloc, priced.len())?;
+    for (_, a) in priced {
+        numbers.push(*a)?;
+    }
+    Ok(Atoms::of_vec(numbers))
 }
 
 /// The supporters of the wanted atoms, one flag for each action.
@@ -100,58 +145,6 @@ fn mark_supporter(flags: &mut Vec<bool>, supporter: Option<u32>, wanted: bool)
     if let Some(a) = supporter {
         wanted::mark_if(flags, a, wanted);
     }
-}
-
-/// Puts an action into its place among the others, where that is wished.
-fn put_if(
-    plan: &mut Vec<u32>,
-    task: &Task,
-    costs: &Costs,
-    a: u32,
-    wished: bool,
-) -> Result<(), AllocError>
-    requires size { length costs.now.costs ≡ task.now.atoms }
-    requires bounded { All (λ cost. cost ≤ infinite) costs.now.costs }
-    requires number { a < length task.now.acts }
-    requires numbers { All (λ b. b < length task.now.acts) plan.old.items }
-    ensures value { OnOk result (plan.new.items ≡ (if wished then put_in (λ b. price_of costs.now.costs (act_at task.now.acts b)) plan.old.items a else plan.old.items)) }
-    ensures numbers { OnOk result (All (λ b. b < length task.now.acts) plan.new.items) }
-{
-    if wished {
-        let place = place_of(plan, task, costs, a);
-        plan.insert(place, a)?;
-    }
-    Ok(())
-}
-
-/// The place of the first action that comes after `a`, or the end.
-fn place_of(plan: &[u32], task: &Task, costs: &Costs, a: u32) -> usize
-    requires size { length costs.now.costs ≡ task.now.atoms }
-    requires bounded { All (λ cost. cost ≤ infinite) costs.now.costs }
-    requires number { a < length task.now.acts }
-    requires numbers { All (λ b. b < length task.now.acts) plan.now }
-    ensures value { result ≡ position_or_len (is_sooner (λ b. price_of costs.now.costs (act_at task.now.acts b)) a) plan.now }
-    ensures within { result ≤ length plan.now }
-{
-    for (i, b) in plan.iter().enumerate() {
-        if is_sooner(task, costs, a, *b) {
-            return i;
-        }
-    }
-    plan.len()
-}
-
-/// Whether an action comes before another in a relaxed plan.
-fn is_sooner(task: &Task, costs: &Costs, a: u32, b: u32) -> bool
-    requires size { length costs.now.costs ≡ task.now.atoms }
-    requires bounded { All (λ cost. cost ≤ infinite) costs.now.costs }
-    requires first { a < length task.now.acts }
-    requires second { b < length task.now.acts }
-    ensures { result ≡ is_sooner (λ c. price_of costs.now.costs (act_at task.now.acts c)) a b }
-{
-    let first = costs.price(task.act(a));
-    let second = costs.price(task.act(b));
-    first < second || (first == second && a < b)
 }
 
 /// The atoms that the actions add and that are not in the state.

@@ -1,13 +1,14 @@
 //! The atoms that a relaxed plan has to reach, and sets of numbers as flags.
-ghost use Rattle.std.specs.Prelude.{◌≡◌, ◌==◌, ◌&&◌, ◌||◌, not, [], ℕ, ◌<◌, false, length, replicate, slice_index_or, IfOk, IfSome, All, None};
-ghost use Rattle.wp_task.specs.Set.{has, lists, atoms_in};
-ghost use Rattle.wp_relax.specs.RelaxedPlan.{needs, more_wanted, wanted_after, wanted_of, AreActs};
+ghost use Rattle.std.specs.Prelude.{◌≡◌, ◌==◌, ◌+◌, ◌&&◌, ◌||◌, not, ℕ, ◌<◌, true, false, length, replicate, count_by, IfOk, IfSome, OnOk, All};
+ghost use Rattle.wp_task.specs.Set.{has, lists};
+ghost use Rattle.wp_relax.specs.RelaxedPlan.{needs, wanted_of, AreActs};
 
 use crate::costs::Costs;
 use std::alloc::{AllocError, Global};
 use wp_task::{Atoms, State, Task};
 
 /// The wanted atoms of a state, one flag for each atom.
+// Each wanted atom is looked at once: it is still to do from when its flag is set until it is taken.
 pub(crate) fn wanted_of(
     alloc: Global,
     task: &Task,
@@ -19,54 +20,78 @@ pub(crate) fn wanted_of(
     requires numbers { AreActs (length task.now.acts) costs.now.supporters }
     ensures { IfOk result (λ wanted. wanted.items ≡ wanted_of task.now.acts task.now.goals s.now costs.now.supporters) }
 {
-    let mut wanted = unmet_goals(alloc, task, s)?;
-    for _round in 0..s.size() {
-        wanted = more_wanted(alloc, task, s, costs, &wanted)?;
+    let mut wanted = no_flags(alloc, s.size())?;
+    let mut todo = Vec::new(alloc);
+    want(&mut wanted, &mut todo, s, task.goals())?;
+    while let Some(p) = todo.pop() {
+        want_needs(&mut wanted, &mut todo, task, s, costs.supporter(p))?;
     }
     Ok(wanted)
 }
 
-fn unmet_goals(alloc: Global, task: &Task, s: &State) -> Result<Vec<bool>, AllocError>
-    requires { length s.now ≡ task.now.atoms }
-    ensures { IfOk result (λ wanted. wanted.items ≡ wanted_after [] task.now.goals s.now [] 0) }
-{
-    let mut wanted = no_flags(alloc, s.size())?;
-    mark_missing(&mut wanted, s, task.goals());
-    Ok(wanted)
-}
-
-/// The wanted atoms, with what their supporters need and the state lacks.
-fn more_wanted(
-    alloc: Global,
+/// What a supporter needs and the state lacks is wanted.
+fn want_needs(
+    wanted: &mut Vec<bool>,
+    todo: &mut Vec<u32>,
     task: &Task,
     s: &State,
-    costs: &Costs,
-    wanted: &[bool],
-) -> Result<Vec<bool>, AllocError>
-    requires state { length wanted.now ≡ task.now.atoms }
-    requires size { length costs.now.costs ≡ task.now.atoms }
-    requires numbers { AreActs (length task.now.acts) costs.now.supporters }
-    ensures { IfOk result (λ more. more.items ≡ more_wanted task.now.acts s.now costs.now.supporters wanted.now) }
-{
-    let mut more = Vec::from_slice(alloc, wanted)?;
-    for p in 0..task.atoms() {
-        mark_needs(&mut more, task, s, wanted[p as usize], costs.supporter(p));
-    }
-    Ok(more)
-}
-
-/// Sets the flags of what a wanted atom's supporter needs and the state lacks.
-fn mark_needs(flags: &mut Vec<bool>, task: &Task, s: &State, wanted: bool, supporter: Option<u32>)
-    requires size { length flags.old.items ≡ task.now.atoms }
+    supporter: Option<u32>,
+) -> Result<(), AllocError>
+    requires size { length wanted.old.items ≡ task.now.atoms }
     requires number { IfSome supporter (λ a. a < length task.now.acts) }
-    ensures size { length flags.new.items ≡ length flags.old.items }
-    ensures set { (q : ℕ) → has flags.new.items q ≡ (has flags.old.items q || ((wanted && needs task.now.acts supporter q) && not (has s.now q))) }
+    requires below { All (λ p. p < length wanted.old.items) todo.old.items }
+    ensures size { OnOk result (length wanted.new.items ≡ length wanted.old.items) }
+    ensures set { OnOk result ((q : ℕ) → has wanted.new.items q ≡ (has wanted.old.items q || (needs task.now.acts supporter q && not (has s.now q)))) }
+    ensures todo { OnOk result ((q : ℕ) → lists todo.new.items q ≡ (lists todo.old.items q || (has wanted.new.items q && not (has wanted.old.items q)))) }
+    ensures below { OnOk result (All (λ p. p < length wanted.old.items) todo.new.items) }
+    ensures left { OnOk result (length todo.new.items + count_by not wanted.new.items ≡ length todo.old.items + count_by not wanted.old.items) }
 {
     if let Some(a) = supporter {
-        if wanted {
-            mark_missing(flags, s, &task.act(a).pre);
-        }
+        want(wanted, todo, s, &task.act(a).pre)?;
     }
+    Ok(())
+}
+
+/// Those of the listed atoms that the state lacks are wanted, and still to do where they were not wanted before.
+fn want(
+    wanted: &mut Vec<bool>,
+    todo: &mut Vec<u32>,
+    s: &State,
+    atoms: &Atoms,
+) -> Result<(), AllocError>
+    requires atoms { All (λ p. p < length wanted.old.items) atoms.now }
+    requires below { All (λ p. p < length wanted.old.items) todo.old.items }
+    ensures size { OnOk result (length wanted.new.items ≡ length wanted.old.items) }
+    ensures set { OnOk result ((q : ℕ) → has wanted.new.items q ≡ (has wanted.old.items q || (lists atoms.now q && not (has s.now q)))) }
+    ensures todo { OnOk result ((q : ℕ) → lists todo.new.items q ≡ (lists todo.old.items q || (has wanted.new.items q && not (has wanted.old.items q)))) }
+    ensures below { OnOk result (All (λ p. p < length wanted.old.items) todo.new.items) }
+    ensures left { OnOk result (length todo.new.items + count_by not wanted.new.items ≡ length todo.old.items + count_by not wanted.old.items) }
+{
+    for p in atoms.as_slice() {
+        want_if(wanted, todo, *p, !s.has(*p))?;
+    }
+    Ok(())
+}
+
+fn want_if(
+    wanted: &mut Vec<bool>,
+    todo: &mut Vec<u32>,
+    p: u32,
+    lacking: bool,
+) -> Result<(), AllocError>
+    requires atom { p < length wanted.old.items }
+    requires below { All (λ q. q < length wanted.old.items) todo.old.items }
+    ensures size { OnOk result (length wanted.new.items ≡ length wanted.old.items) }
+    ensures set { OnOk result ((q : ℕ) → has wanted.new.items q ≡ (has wanted.old.items q || ((p == q) && lacking))) }
+    ensures todo { OnOk result ((q : ℕ) → lists todo.new.items q ≡ (lists todo.old.items q || (has wanted.new.items q && not (has wanted.old.items q)))) }
+    ensures below { OnOk result (All (λ q. q < length wanted.old.items) todo.new.items) }
+    ensures left { OnOk result (length todo.new.items + count_by not wanted.new.items ≡ length todo.old.items + count_by not wanted.old.items) }
+{
+    if lacking && !wanted[p as usize] {
+        todo.push(p)?;
+        wanted[p as usize] = true;
+    }
+    Ok(())
 }
 
 /// Sets the flags of the listed atoms that the state lacks.

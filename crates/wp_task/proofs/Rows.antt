@@ -3,7 +3,7 @@ use Rattle.std.specs.Prelude.{◌≡◌, ℕ, true, false, List, [], ◌∷◌, 
 use Rattle.wp_task.specs.declared.acts.Act.{Act}
 use Rattle.wp_task.specs.Set.{set_of}
 use Rattle.wp_task.specs.Task.{PlanningTask, applicable_in, adders_of, goal_counter, leads_to, result_of, is_plan}
-use Rattle.wp_task.specs.Novelty.{Generated, sets_of, novelty_of}
+use Rattle.wp_task.specs.Novelty.{Generated, sets_of, tuples_in, novelty_of}
 
 -- a chain: a gives b, b gives c and takes a away
 abbrev chain : PlanningTask
@@ -61,6 +61,9 @@ trap_adders = refl
 
 pairs : sets_of 2 (0 ∷ 3 ∷ 4 ∷ []) ≡ (0 ∷ 3 ∷ []) ∷ (0 ∷ 4 ∷ []) ∷ (3 ∷ 4 ∷ []) ∷ []
 pairs = refl
+
+tuples : tuples_in 2 3 ≡ (0 ∷ []) ∷ (1 ∷ []) ∷ (2 ∷ []) ∷ (0 ∷ 1 ∷ []) ∷ (0 ∷ 2 ∷ []) ∷ (1 ∷ 2 ∷ []) ∷ []
+tuples = refl
 
 -- the nodes of the chain: each has an atom that is new for its counters
 abbrev node : ℕ → ℕ → ℕ → List ℕ → Generated

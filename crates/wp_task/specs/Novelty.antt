@@ -1,7 +1,7 @@
 -- Novelty of a generated node, after Lipovetzky and Geffner (AAAI 2017), for the counters (#g, #r).
 -- Ours: the novelty is width + 1 where no tuple of up to `width` atoms is new; a repeat is no node here.
 use Rattle.std.specs.Prelude.{◌≡◌, ◌==◌, ◌&&◌, not, ℕ, ◌+◌, ◌<◌, ◌≤◌, ◌⊎◌, ◌↔◌, nat_lt, zero, suc, Bool, List, [], ◌∷◌, ◌++◌, length, map, filter, All, Contains}
-use Rattle.std.specs.List.{list_all, list_any, position_or_len, range_with_len}
+use Rattle.std.specs.List.{flat_map, list_all, list_any, position_or_len, range_with_len}
 use Rattle.wp_task.specs.Set.{has, IsIn, atoms_in}
 
 -- a generated node: its number in the order of generation, its counters, and the atoms true in it
@@ -27,6 +27,10 @@ abbrev pub sets_of : ℕ → List ℕ → List (List ℕ)
 sets_of zero atoms = [] ∷ []
 sets_of (suc i) [] = []
 sets_of (suc i) (p ∷ atoms) = map (λ set. p ∷ set) (sets_of i atoms) ++ sets_of (suc i) atoms
+
+-- the tuples: the sets of 1 to `width` of the atoms below `atoms`
+abbrev pub tuples_in : ℕ → ℕ → List (List ℕ)
+tuples_in width atoms = flat_map (λ i. sets_of i (range_with_len 0 atoms)) (range_with_len 1 width)
 
 -- whether y was generated before x, with its counters
 abbrev pub is_earlier : Generated → Generated → Bool

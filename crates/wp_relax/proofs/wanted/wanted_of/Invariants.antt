@@ -1,6 +1,10 @@
-use Rattle.std.proofs.Common.{◌≡◌}
-use Rattle.wp_relax.specs.RelaxedPlan.{wanted_after}
+use Rattle.std.proofs.Common.{◌+◌, not, length}
+use Rattle.std.specs.List.{count_by}
+use Rattle.wp_relax.proofs.Looking.{IsLooked}
 use Rattle.wp_relax.proofs.wanted.wanted_of.Given as goal
 
-abbrev pub invariant-loop-round : goal.invariant-loop-round
-invariant-loop-round l = l.wanted.items ≡ wanted_after l.task.acts l.task.goals l.s l.costs.supporters l._round
+abbrev pub invariant-loop-p : goal.invariant-loop-p
+invariant-loop-p l = IsLooked l.task.acts l.task.goals l.s l.costs.supporters l.wanted.items l.todo.items
+
+abbrev pub decreases-loop-p : goal.decreases-loop-p
+decreases-loop-p l = length l.todo.items + count_by not l.wanted.items

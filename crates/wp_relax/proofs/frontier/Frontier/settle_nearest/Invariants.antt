@@ -1,0 +1,13 @@
+use Rattle.std.proofs.Common.{◌≡◌, heap_items, heap_len}
+use Rattle.wp_relax.specs.Frontier.{IsFrontier}
+use Rattle.wp_relax.proofs.frontier.Frontier.settle_nearest.Given as goal
+
+abbrev pub invariant-loop-p : goal.invariant-loop-p
+invariant-loop-p l = record {
+  frontier : IsFrontier l.self-inside.costs.items l.self-inside.settled.items (heap_items l.self-inside.waiting);
+  costs : l.self-inside.costs.items ≡ l.fn.self.costs;
+  settled : l.self-inside.settled.items ≡ l.fn.self.settled;
+}
+
+abbrev pub decreases-loop-p : goal.decreases-loop-p
+decreases-loop-p l = heap_len l.self-inside.waiting

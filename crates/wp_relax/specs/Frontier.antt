@@ -1,0 +1,64 @@
+-- The frontier at which atoms are settled in the order of their costs, after Dijkstra (Numerische Mathematik 1, 1959)
+-- and Knuth (Information Processing Letters 6, 1977).
+use Rattle.std.specs.Prelude.{◌≡◌, ◌==◌, ◌&&◌, ◌<◌, ◌≤◌, ℕ, min, Bool, false, All, Contains, List, length, map, fold, filter, slice_index, Vec}
+use Rattle.std.specs.List.{range_with_len}
+use Rattle.std.specs.Ordering.{nat_cmp, ordering_then}
+use Rattle.std.specs.BinaryHeap.{IsHeap}
+use Rattle.std.specs.declared.cmp.Reverse.{Reverse}
+use Rattle.std.specs.declared.alloc.Global.{Global}
+use Rattle.wp_task.specs.declared.acts.Act.{Act}
+use Rattle.wp_task.specs.Set.{has, lists}
+use Rattle.wp_task.specs.Task.{act_at}
+use Rattle.wp_relax.specs.AdditiveCost.{infinite}
+
+-- the costs of the atoms so far, and which of them are settled
+pub record Front : Type 0 where
+  pub costs : List ℕ
+  pub settled : List Bool
+
+-- p is not settled and has a finite cost, and no atom that is not settled costs less
+pub record IsNearest (front : Front) (p : ℕ) : Type 0 where
+  pub within : p < length front.costs
+  pub unsettled : has front.settled p ≡ false
+  pub small : slice_index front.costs p < infinite
+  pub least : (q : ℕ) → q < length front.costs → has front.settled q ≡ false → slice_index front.costs p ≤ slice_index front.costs q
+
+-- no atom that is not settled has a finite cost
+abbrev pub IsSpent : Front → Type 0
+IsSpent front = (q : ℕ) → q < length front.costs → has front.settled q ≡ false → infinite ≤ slice_index front.costs q
+
+-- what waits in the heap: a cost that an atom was given, and the atom
+abbrev pub Waiting : Type 0
+Waiting = Reverse (ℕ × ℕ)
+
+-- an atom may wait with an older cost than the one that it has
+pub record IsKnown (costs : List ℕ) (w : Waiting) : Type 0 where
+  pub within : w.0.1 < length costs
+  pub lower : slice_index costs w.0.1 ≤ w.0.0
+  pub small : w.0.0 < infinite
+
+-- each atom that is not settled and has a finite cost waits with that cost, and the heap is in order, the least cost first
+pub record IsFrontier (costs : List ℕ) (settled : List Bool) (waiting : List Waiting) : Type 0 where
+  pub size : length settled ≡ length costs
+  pub most : All (λ cost. cost ≤ infinite) costs
+  pub known : All (IsKnown costs) waiting
+  pub each : (p : ℕ) → p < length costs → has settled p ≡ false → slice_index costs p < infinite →
+      Contains waiting (record { 0 = (slice_index costs p, p) })
+  pub ordered : IsHeap (λ v w. ordering_then (nat_cmp w.0.0 v.0.0) (nat_cmp w.0.1 v.0.1)) waiting
+
+-- the actions that need an atom, in number order
+abbrev pub needers_of : List Act → ℕ → List ℕ
+needers_of acts p = filter (λ a. lists (act_at acts a).pre p) (range_with_len 0 (length acts))
+
+-- the lists that vectors have
+abbrev pub numbers_in : List (Vec ℕ Global) → List (List ℕ)
+numbers_in vectors = map (λ v. v.items) vectors
+
+-- whether an action adds the atom and has no precondition left that is not settled
+abbrev pub offers : List Act → List ℕ → ℕ → ℕ → Bool
+offers acts left p a = (slice_index left a == 0) && lists (act_at acts a).add p
+
+-- the least of an atom's cost and the prices of those of the actions that offer one
+abbrev pub least_offer : List Act → List ℕ → List ℕ → List ℕ → List ℕ → ℕ → ℕ
+least_offer acts left prices numbers costs p =
+    fold min (slice_index costs p) (map (slice_index prices) (filter (offers acts left p) numbers))

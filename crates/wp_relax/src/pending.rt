@@ -1,0 +1,72 @@
+//! For each action what is left of its preconditions, while atoms are settled.
+ghost use Rattle.std.specs.Prelude.{◌≡◌, ◌+◌, ◌-◌, ◌<◌, ◌≤◌, ◌^◌, ℕ, min, length, map, replicate, slice_index, slice_set, IfOk, All, if◌then◌else◌};
+ghost use Rattle.std.specs.List.Sorted.{IsStrictlyIncreasing};
+ghost use Rattle.wp_task.specs.Set.{lists};
+ghost use Rattle.wp_relax.specs.AdditiveCost.{infinite};
+
+use crate::frontier::INFINITE;
+use std::alloc::{AllocError, Global};
+use wp_task::Task;
+
+/// How many preconditions of each action are not settled, and 1 and the costs of those that are, at most infinite.
+#[derive(Drop)]
+pub(crate) struct Pending {
+    pub(crate) left: Vec<u32>,
+    pub(crate) prices: Vec<u64>,
+}
+
+impl Pending {
+    /// Nothing is settled.
+    pub(crate) fn of(alloc: Global, task: &Task) -> Result<Pending, AllocError>
+        requires { task.now.atoms < 2 ^ 32 }
+        ensures left { IfOk result (λ pending. pending.left.items ≡ map (λ act. length act.pre) task.now.acts) }
+        ensures prices { IfOk result (λ pending. pending.prices.items ≡ replicate (length task.now.acts) 1) }
+    {
+        let left = precondition_counts(alloc, task)?;
+        let prices = vec![in alloc; 1u64; task.act_count() as usize]?;
+        Ok(Pending { left, prices })
+    }
+
+    /// A precondition of the actions is settled at a cost.
+    pub(crate) fn settle_each(&mut self, needers: &[u32], cost: u64)
+        requires rising { IsStrictlyIncreasing needers.now }
+        requires numbers { All (λ a. a < length self.old.left.items) needers.now }
+        requires size { length self.old.prices.items ≡ length self.old.left.items }
+        requires waits { All (λ a. 0 < slice_index self.old.left.items a) needers.now }
+        requires bounded { All (λ price. price ≤ infinite) self.old.prices.items }
+        requires cost { cost ≤ infinite }
+        ensures left { (a : ℕ) → slice_index self.new.left.items a ≡ (if lists needers.now a then slice_index self.old.left.items a - 1 else slice_index self.old.left.items a) }
+        ensures prices { (a : ℕ) → slice_index self.new.prices.items a ≡ (if lists needers.now a then min infinite (slice_index self.old.prices.items a + cost) else slice_index self.old.prices.items a) }
+        ensures lefts { length self.new.left.items ≡ length self.old.left.items }
+        ensures size { length self.new.prices.items ≡ length self.old.prices.items }
+    {
+        for a in needers {
+            self.settle(*a, cost);
+        }
+    }
+
+    fn settle(&mut self, a: u32, cost: u64)
+        requires left { a < length self.old.left.items }
+        requires price { a < length self.old.prices.items }
+        requires waits { 0 < slice_index self.old.left.items a }
+        requires bounded { slice_index self.old.prices.items a ≤ infinite }
+        requires cost { cost ≤ infinite }
+        ensures left { self.new.left.items ≡ slice_set self.old.left.items a (slice_index self.old.left.items a - 1) }
+        ensures prices { self.new.prices.items ≡ slice_set self.old.prices.items a (min infinite (slice_index self.old.prices.items a + cost)) }
+    {
+        self.left[a as usize] -= 1;
+        let price = self.prices[a as usize];
+        self.prices[a as usize] = INFINITE.min(price + cost);
+    }
+}
+
+fn precondition_counts(alloc: Global, task: &Task) -> Result<Vec<u32>, AllocError>
+    requires { task.now.atoms < 2 ^ 32 }
+    ensures { IfOk result (λ counts. counts.items ≡ map (λ act. length act.pre) task.now.acts) }
+{
+    let mut counts = Vec::with_capacity(alloc, task.act_count() as usize)?;
+    for a in 0..task.act_count() {
+        counts.push(task.act(a).pre.as_slice().len() as u32)?;
+    }
+    Ok(counts)
+}
