@@ -1,0 +1,3 @@
+pub mod AtomLemmas
+pub mod MarkLemmas
+mod Rows

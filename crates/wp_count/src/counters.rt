@@ -1,0 +1,169 @@
+//! Counters of the root and of the children of a node.
+ghost use Rattle.std.specs.Prelude.{◌≡◌, ◌∷◌, [], ◌++◌, ◌||◌, ◌<◌, ◌≤◌, ℕ, true, false, map, length, filter, replicate, IsTrue, IfOk, OnOk, All, if◌then◌else◌};
+ghost use Rattle.wp_task.specs.Set.{has, lists};
+ghost use Rattle.wp_task.specs.Task.{act_at, result_of};
+ghost use Rattle.wp_relax.specs.RelaxedPlan.{relaxed_atoms_of};
+ghost use Rattle.wp_count.specs.Broods.{IsMarkOf, with_achieved, base_child, later_child, child_of, children_of, root_mark};
+ghost use Rattle.wp_count.specs.Laws.{IsMarked};
+
+use crate::brood::{Brood, Child, Children};
+use std::alloc::{AllocError, Global};
+use wp_relax::relaxed_atoms;
+use wp_succ::Successors;
+use wp_task::{Atoms, Mark, State, Task, Track};
+
+/// What the root is and keeps: the opening state, its mark, and R of it as track 0.
+pub fn root_of(alloc: Global, task: &Task) -> Result<(State, Mark, Track), AllocError>
+    ensures value { IfOk result (λ root. root ≡ (task.now.init, root_mark task.now, relaxed_atoms_of task.now.acts task.now.goals task.now.init)) }
+    ensures marked { IfOk result (λ root. IsMarked task.now root.0 [] root.1 root.2) }
+{
+    let state = task.init().copy(alloc)?;
+    let track = relaxed_atoms(alloc, task, &state)?;
+    let got = no_atoms(alloc, task.atoms())?;
+    let mark = Mark {
+        g: task.unmet_goals(&state),
+        r: 0,
+        track: 0,
+        got,
+    };
+    Ok((state, mark, track))
+}
+
+/// The children of a node, with their counters, from its state, its mark and its track.
+pub fn brood_of<S: Successors>(
+    alloc: Global,
+    task: &Task,
+    succ: &S,
+    number: u64,
+    state: &State,
+    mark: &Mark,
+    track: &Track,
+) -> Result<Brood, AllocError>
+    requires serves { IsTrue (S.serves succ.now task.now) }
+    requires size { length state.now ≡ task.now.atoms }
+    requires marked { IsMarkOf task.now state.now mark.now track.now }
+    ensures value { IfOk result (λ brood. brood ≡ record { number = number; children = children_of task.now state.now mark.now track.now }) }
+    ensures few { IfOk result (λ brood. length brood.children ≤ length task.now.acts) }
+{
+    let acts = succ.list(alloc, task, state)?;
+    let children = children_of(alloc, task, state, mark, track, &acts)?;
+    Ok(Brood::of(number, children))
+}
+
+/// The children that some actions lead to.
+fn children_of(
+    alloc: Global,
+    task: &Task,
+    state: &State,
+    mark: &Mark,
+    track: &Track,
+    acts: &Atoms,
+) -> Result<Children, AllocError>
+    requires size { length state.now ≡ task.now.atoms }
+    requires marked { IsMarkOf task.now state.now mark.now track.now }
+    requires numbers { All (λ a. a < length task.now.acts) acts.now }
+    ensures { IfOk result (λ children. children ≡ map (λ a. child_of task.now mark.now track.now a (result_of (act_at task.now.acts a) state.now)) acts.now) }
+{
+    let mut children = Vec::with_capacity(alloc, acts.as_slice().len())?;
+    for a in acts.as_slice() {
+        let child = child_of(alloc, task, state, mark, track, *a)?;
+        children.push(child)?;
+    }
+    Ok(Children::of_vec(children))
+}
+
+/// The child that an action leads to: a base where #g falls, else one that goes on with its parent's atoms.
+fn child_of(
+    alloc: Global,
+    task: &Task,
+    state: &State,
+    mark: &Mark,
+    track: &Track,
+    a: u32,
+) -> Result<Child, AllocError>
+    requires size { length state.now ≡ task.now.atoms }
+    requires marked { IsMarkOf task.now state.now mark.now track.now }
+    requires number { a < length task.now.acts }
+    ensures { IfOk result (λ child. child ≡ child_of task.now mark.now track.now a (result_of (act_at task.now.acts a) state.now)) }
+{
+    let next = task.apply(alloc, state, a)?;
+    if task.unmet_goals(&next) < mark.g {
+        base_child(alloc, task, a, next)
+    } else {
+        later_child(alloc, task, a, next, mark, track)
+    }
+}
+
+/// A child with fewer unmet goals than its parent: #r starts anew on its own relaxed plan.
+fn base_child(alloc: Global, task: &Task, a: u32, state: State) -> Result<Child, AllocError>
+    requires { length state ≡ task.now.atoms }
+    ensures { IfOk result (λ child. child ≡ base_child task.now a state) }
+{
+    let fresh = relaxed_atoms(alloc, task, &state)?;
+    let got = no_atoms(alloc, task.atoms())?;
+    Ok(Child {
+        act: a,
+        g: task.unmet_goals(&state),
+        r: 0,
+        got,
+        fresh: Some(fresh),
+        state,
+    })
+}
+
+/// A child whose #r counts on its parent's track.
+fn later_child(
+    alloc: Global,
+    task: &Task,
+    a: u32,
+    state: State,
+    mark: &Mark,
+    track: &Track,
+) -> Result<Child, AllocError>
+    requires size { length state ≡ length mark.now.got }
+    requires tracked { (p : ℕ) → has mark.now.got p ≡ true → lists track.now p ≡ true }
+    ensures { IfOk result (λ child. child ≡ later_child task.now a state (with_achieved mark.now.got track.now state)) }
+{
+    let achieved = achieved_on(alloc, track.atoms(), &mark.got, &state)?;
+    let got = State::of(alloc, &achieved, state.size())?;
+    Ok(Child {
+        act: a,
+        g: task.unmet_goals(&state),
+        r: achieved.as_slice().len() as u32,
+        got,
+        fresh: None,
+        state,
+    })
+}
+
+/// The atoms of the track that were achieved so far or are in the state.
+fn achieved_on(
+    alloc: Global,
+    track: &Atoms,
+    got: &State,
+    state: &State,
+) -> Result<Atoms, AllocError>
+    ensures { IfOk result (λ atoms. atoms ≡ filter (λ p. has got.now p || has state.now p) track.now) }
+{
+    let mut achieved = Vec::new(alloc);
+    for p in track.as_slice() {
+        push_if(&mut achieved, *p, got.has(*p) || state.has(*p))?;
+    }
+    Ok(Atoms::of_vec(achieved))
+}
+
+fn no_atoms(alloc: Global, size: u32) -> Result<State, AllocError>
+    ensures { IfOk result (λ state. state ≡ replicate size false) }
+{
+    let state = State::of(alloc, &Atoms::of_vec(Vec::new(alloc)), size)?;
+    Ok(state)
+}
+
+fn push_if(numbers: &mut Vec<u32>, number: u32, wished: bool) -> Result<(), AllocError>
+    ensures { OnOk result (numbers.new.items ≡ numbers.old.items ++ (if wished then number ∷ [] else [])) }
+{
+    if wished {
+        numbers.push(number)?;
+    }
+    Ok(())
+}

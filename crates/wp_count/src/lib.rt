@@ -1,0 +1,10 @@
+//! Counters of nodes.
+#![tactic(auto)]
+
+pub mod brood;
+pub mod counters;
+pub mod laws;
+
+pub use brood::{Brood, Child, Children};
+pub use counters::{brood_of, root_of};
+pub use laws::counters_are_carried;
