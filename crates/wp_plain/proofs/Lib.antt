@@ -1,0 +1,23 @@
+pub mod StepCases
+pub mod NumberLemmas
+pub mod NextNodes
+pub mod TraceLemmas
+pub mod FoundLemmas
+pub mod EmptiedLemmas
+pub mod Pigeons
+pub mod CounterPairs
+pub mod NewTuples
+pub mod SparseLemmas
+pub mod LimitLemmas
+pub mod ListLemmas
+pub mod TupleLemmas
+pub mod ReachedLemmas
+pub mod NodeLemmas
+pub mod ChildLemmas
+pub mod ExpandLemmas
+pub mod PathLemmas
+pub mod RunLemmas
+pub mod OpeningLemmas
+pub mod FirstLemmas
+pub mod WorkerLemmas
+mod Rows

@@ -1,0 +1,60 @@
+-- A step and a run, test by test.
+use Rattle.std.proofs.Common.{◌≡◌, ◌==◌, ℕ, suc, ◌+◌, true, false, List, [], Option, Some, None, length, sym, ap, ◌∙◌}
+use Rattle.wp_task.specs.Task.{PlanningTask}
+use Rattle.wp_watch.specs.declared.event.Event.{Event}
+use Rattle.wp_plain.specs.declared.settings.Settings.{Settings}
+use Rattle.wp_plain.specs.declared.ending.How.{How}
+use Rattle.wp_plain.specs.declared.ending.How.TheVariants.{Found, Budget, Words}
+use Rattle.wp_plain.specs.declared.explored.Explored.{Explored}
+use Rattle.wp_plain.specs.Nodes.{Node, Path, path_at}
+use Rattle.wp_plain.specs.Pairs.{tuple_count, exceeds}
+use Rattle.wp_plain.specs.Run.{Moment, Outcome, expand, look_at, opening, run, step, run_from}
+use Rattle.wp_plain.specs.Run.Outcome.{Goes, Ends}
+use Rattle.wp_plain.specs.Explored.{moment_of, StandsFor, Steps, StepsFrom}
+
+module _ (task : PlanningTask) (settings : Settings) where
+  pub look_at-found : (m : Moment) (node : Node) (plan : List ℕ) → (node.generated.counters.0 == 0) ≡ true → plan ≡ (path_at m.paths node.generated.number).acts →
+      look_at task settings m (Some node) ≡ Ends (Found plan)
+  look_at-found m node plan met plan_is =
+      ap (λ b. elim b as (λ _. Outcome) [
+        | true ↦ Ends (Found (path_at m.paths node.generated.number).acts)
+        | false ↦ elim (length m.events == settings.budget) as (λ _. Outcome) [ true ↦ Ends Budget | false ↦ expand task settings m node ]
+      ]) met
+      ∙ ap (λ acts. Ends (Found acts)) (sym plan_is)
+
+  pub look_at-expands : (m : Moment) (node : Node) → (node.generated.counters.0 == 0) ≡ false → (length m.events == settings.budget) ≡ false →
+      look_at task settings m (Some node) ≡ expand task settings m node
+  look_at-expands m node unmet spare =
+      ap (λ b. elim b as (λ _. Outcome) [
+        | true ↦ Ends (Found (path_at m.paths node.generated.number).acts)
+        | false ↦ elim (length m.events == settings.budget) as (λ _. Outcome) [ true ↦ Ends Budget | false ↦ expand task settings m node ]
+      ]) unmet
+      ∙ ap (λ b. elim b as (λ _. Outcome) [ true ↦ Ends Budget | false ↦ expand task settings m node ]) spare
+
+  -- outcomes that are the same from each moment
+  steps-same : (outcome other : Outcome) (e later : Explored) (how : Option How) → outcome ≡ other → Steps task settings other e later how → Steps task settings outcome e later how
+  steps-same outcome other e later None same went = (went.0, went.1, went.2, same ∙ went.3)
+  steps-same outcome other e later (Some end) same went = (went.0, same ∙ went.1)
+
+  pub steps-from_same : (outcome other : Moment → Outcome) (e later : Explored) (how : Option How) →
+      ((paths : List Path) (events : List Event) → StandsFor task settings e paths events → outcome (moment_of e paths events) ≡ other (moment_of e paths events)) →
+      StepsFrom task settings other e later how → StepsFrom task settings outcome e later how
+  steps-from_same outcome other e later how same went = λ paths events stands.
+      steps-same (outcome (moment_of e paths events)) (other (moment_of e paths events)) e later how (same paths events stands) (went paths events stands)
+
+  -- one step more
+  pub run_from-goes : (steps : ℕ) (m next : Moment) → step task settings m ≡ Goes next → run_from task settings (suc steps) m ≡ run_from task settings steps next
+  run_from-goes steps m next goes = ap (λ o. elim o as (λ _. How × Moment) [ Goes after ↦ run_from task settings steps after | Ends how ↦ (how, m) ]) goes
+
+  pub run_from-ends : (steps : ℕ) (m : Moment) (how : How) → step task settings m ≡ Ends how → run_from task settings (suc steps) m ≡ (how, m)
+  run_from-ends steps m how ends = ap (λ o. elim o as (λ _. How × Moment) [ Goes after ↦ run_from task settings steps after | Ends end ↦ (end, m) ]) ends
+
+  -- the run begins with the steps from the opening, unless the root's pair wants too many words
+  pub run-goes : (e : Explored) → exceeds settings.words 1 (tuple_count settings.width task.atoms) ≡ false → e.nodes.items ≡ (opening task settings).nodes →
+      run task settings ≡ run_from task settings (settings.budget + 1) (moment_of e (opening task settings).paths [])
+  run-goes e few nodes =
+      ap (λ b. elim b as (λ _. How × Moment) [
+        | true ↦ (Words 1, opening task settings)
+        | false ↦ run_from task settings (settings.budget + 1) (opening task settings)
+      ]) few
+      ∙ λ j. run_from task settings (settings.budget + 1) (let m : Moment = record { nodes = sym nodes j; paths = (opening task settings).paths; events = [] } in m)

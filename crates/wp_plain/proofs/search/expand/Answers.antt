@@ -1,0 +1,67 @@
+use Rattle.std.proofs.Common.{◌≡◌, ◌-◌, ◌+◌, ℕ, true, false, length, map, refl, sym, ap, ◌∙◌, arith, rules}
+use Rattle.std.specs.List.{fold}
+use Rattle.wp_plain.specs.declared.ending.How.TheVariants.{Words}
+use Rattle.wp_plain.specs.Nodes.{states_kept}
+use Rattle.wp_plain.specs.Pairs.{with_pair, tuple_count, exceeds}
+use Rattle.wp_plain.specs.Expansion.{unseen}
+use Rattle.wp_plain.specs.Run.Outcome.{Ends}
+use Rattle.wp_plain.specs.Explored.{child_pair, brood_at, lists_of}
+use Rattle.wp_plain.proofs.ChildLemmas.{unseen-few}
+use Rattle.wp_plain.proofs.ExpandLemmas.{IsBrood, IsCommitted, expand-words, expand-goes}
+use Rattle.wp_plain.proofs.search.expand.Goals as goal
+
+pub overflow_sub-repeats : goal.overflow_sub-repeats
+overflow_sub-repeats c =
+    let brood = c.in_ok-brood.brood.items in
+    let fresh = c.in_ok-fresh.fresh.items in
+    let all : c.len-count.result ≡ length brood = search rules in
+    let rest : c.len.result ≡ length fresh = search rules in
+    omega (arith, ap length c.in_ok-fresh.ensures, unseen-few (λ x. x.state) (states_kept c.deref.result.now) brood)
+
+pub returns-then-exceeds : goal.returns-then-exceeds
+returns-then-exceeds c paths events stands =
+    let task = c.args.task.now in
+    let settings = c.args.settings.now in
+    let e = c.args.explored.now in
+    let fresh = c.in_ok-fresh.fresh.items in
+    let pairs = c.in_ok-pairs.pairs.items in
+    let brood : IsBrood task e c.args.place fresh pairs = record {
+      law = c.counters_are_carried.ensures.children;
+      within = c.requires.place;
+      unseen_is = c.in_ok-fresh.ensures ∙ (λ j. unseen (λ x. x.state) (states_kept (c.deref.ensures.value j)) (c.in_ok-brood.ensures.value j));
+      pairs_is = c.in_ok-pairs.ensures ∙ (λ j. fold with_pair (c.deref-2.ensures.value j) (map child_pair (c.deref-3.ensures.value j)));
+    } in
+    let tuples : c.tuple_count-tuples.result ≡ tuple_count settings.width task.atoms = c.tuple_count-tuples.ensures.value ∙ ap (tuple_count settings.width) c.atoms.ensures.value in
+    let needed : c.len-needed.result ≡ length pairs = search rules in
+    let many : exceeds settings.words (length pairs) (tuple_count settings.width task.atoms) ≡ true =
+    (λ j. exceeds settings.words (sym needed j) (sym tuples j)) ∙ (sym c.exceeds.ensures ∙ c.if-exceeds.true) in
+    (refl, expand-words task settings e paths events c.args.place fresh pairs stands brood many ∙ ap (λ (n : ℕ). Ends (Words n)) (sym needed))
+
+pub returns : goal.returns
+returns c paths events stands =
+    let task = c.args.task.now in
+    let settings = c.args.settings.now in
+    let e = c.args.explored.now in
+    let fresh = c.in_ok-fresh.fresh.items in
+    let pairs = c.in_ok-pairs.pairs.items in
+    let brood : IsBrood task e c.args.place fresh pairs = record {
+      law = c.counters_are_carried.ensures.children;
+      within = c.requires.place;
+      unseen_is = c.in_ok-fresh.ensures ∙ (λ j. unseen (λ x. x.state) (states_kept (c.deref.ensures.value j)) (c.in_ok-brood.ensures.value j));
+      pairs_is = c.in_ok-pairs.ensures ∙ (λ j. fold with_pair (c.deref-2.ensures.value j) (map child_pair (c.deref-3.ensures.value j)));
+    } in
+    let tuples : c.tuple_count-tuples.result ≡ tuple_count settings.width task.atoms = c.tuple_count-tuples.ensures.value ∙ ap (tuple_count settings.width) c.atoms.ensures.value in
+    let needed : c.len-needed.result ≡ length pairs = search rules in
+    let few : exceeds settings.words (length pairs) (tuple_count settings.width task.atoms) ≡ false =
+    (λ j. exceeds settings.words (sym needed j) (sym tuples j)) ∙ (sym c.exceeds.ensures ∙ c.if-exceeds.false) in
+    let all : c.len-count.result ≡ length (brood_at task (lists_of e) c.args.place) =
+    (let counted : c.len-count.result ≡ length c.in_ok-brood.brood.items = search rules in counted) ∙ ap length c.in_ok-brood.ensures.value in
+    let rest : c.len.result ≡ length fresh = search rules in
+    let committed : IsCommitted task settings e c.commit.new.explored c.args.place fresh = record {
+      spare = c.requires.spare;
+      small = omega (arith, ap length c.in_ok-brood.ensures.value, c.in_ok-brood.ensures.few, c.atoms.ensures.fits.few_acts);
+      lists = c.in_ok-commit.ensures.lists;
+      expansions = c.in_ok-commit.ensures.expanded;
+      repeats = c.in_ok-commit.ensures.repeats ∙ (λ j. e.repeats + (all j - rest j));
+    } in
+    expand-goes task settings e paths events c.args.place fresh pairs stands brood c.commit.new.explored committed (ap (λ v. v.items) c.in_ok-commit.ensures.pairs) few

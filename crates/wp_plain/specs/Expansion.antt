@@ -1,0 +1,95 @@
+-- What an expansion generates. A child is a repeat where its state is that of a kept node or of an earlier child of the
+-- same expansion; the others get the next numbers, their counters over the whole path, and their novelty among all
+-- nodes of smaller numbers, the pruned ones and the new ones among them.
+-- Ours: repeats get no number; k-BFWS prunes a novelty above its width k, and the root is always kept.
+use Rattle.std.specs.Prelude.{◌+◌, not, nat_lt, ℕ, Bool, true, false, List, [], ◌∷◌, ◌++◌, map}
+use Rattle.std.specs.List.{list_any}
+use Rattle.std.specs.Bool.{beq}
+use Rattle.std.specs.Cmp.Lexicographic.{pointwise}
+use Rattle.wp_task.specs.declared.acts.Act.{Act}
+use Rattle.wp_task.specs.Task.{PlanningTask, act_at, applicable_in, goal_counter, result_of}
+use Rattle.wp_task.specs.Novelty.{Generated, novelty_of}
+use Rattle.wp_count.specs.Counters.{relaxed_counter}
+use Rattle.wp_watch.specs.declared.event.Born.{Born}
+use Rattle.wp_watch.specs.declared.event.Event.{Event}
+use Rattle.wp_plain.specs.declared.settings.Search.{Search}
+use Rattle.wp_plain.specs.declared.settings.Search.TheVariants.{KBfws, F5}
+use Rattle.wp_plain.specs.declared.settings.Settings.{Settings}
+use Rattle.wp_plain.specs.Nodes.{Node, Successor}
+
+-- the applicable actions in number order, each with the state that it leads to
+abbrev pub successors_of : List Act → List Bool → List Successor
+successors_of acts state = map (λ a. record { act = a; state = result_of (act_at acts a) state }) (applicable_in acts state)
+
+-- the items whose state is none of the seen ones and none of an earlier item
+abbrev pub unseen : {X : Type 0} → (X → List Bool) → List (List Bool) → List X → List X
+unseen state_of seen [] = []
+unseen state_of seen (x ∷ xs) = elim (list_any (pointwise beq (state_of x)) seen) [
+  | true ↦ unseen state_of seen xs
+  | false ↦ x ∷ unseen state_of (seen ++ state_of x ∷ []) xs
+]
+
+-- the node of a state after a path: its number, and its counters over the whole path
+abbrev pub generated_at : PlanningTask → List (List Bool) → ℕ → List Bool → Generated
+generated_at task states number state = record {
+  number = number;
+  counters = (goal_counter task.goals state, relaxed_counter task (state ∷ states));
+  state = state;
+}
+
+-- the children with the next numbers
+abbrev pub fresh_of : PlanningTask → List (List Bool) → ℕ → List Successor → List Generated
+fresh_of task states number [] = []
+fresh_of task states number (x ∷ children) = generated_at task states number x.state ∷ fresh_of task states (number + 1) children
+
+-- whether a child of this novelty is kept
+abbrev pub keeps : Search → ℕ → ℕ → Bool
+keeps F5 width w = true
+keeps KBfws width w = not (nat_lt width w)
+
+abbrev pub with_novelty : Settings → Generated → ℕ → Node
+with_novelty settings x w = record {
+  generated = x;
+  w = w;
+  kept = keeps settings.search settings.width w;
+  waits = keeps settings.search settings.width w;
+}
+
+-- a child as a node, by its novelty among all nodes
+abbrev pub node_of : Settings → List Generated → Generated → Node
+node_of settings nodes x = with_novelty settings x (novelty_of settings.width nodes x)
+
+-- the root, which has no parent
+abbrev pub root_of : PlanningTask → Settings → Node
+root_of task settings = record {
+  generated = generated_at task [] 0 task.init;
+  w = novelty_of settings.width (generated_at task [] 0 task.init ∷ []) (generated_at task [] 0 task.init);
+  kept = true;
+  waits = true;
+}
+
+-- what is told of the children and of the expansion
+abbrev pub born_of : Successor → Node → Born
+born_of x node = record {
+  number = node.generated.number;
+  act = x.act;
+  w = node.w;
+  g = node.generated.counters.0;
+  r = node.generated.counters.1;
+  kept = node.kept;
+}
+
+abbrev pub borns_of : List Successor → List Node → List Born
+borns_of [] nodes = []
+borns_of (x ∷ children) [] = []
+borns_of (x ∷ children) (node ∷ nodes) = born_of x node ∷ borns_of children nodes
+
+abbrev pub event_of : Node → ℕ → List Born → Event
+event_of node repeats born = record {
+  number = node.generated.number;
+  w = node.w;
+  g = node.generated.counters.0;
+  r = node.generated.counters.1;
+  repeats = repeats;
+  born = born;
+}

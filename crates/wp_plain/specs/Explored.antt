@@ -1,0 +1,170 @@
+-- What the plain search keeps, and the moments that it stands for: the moment's nodes are kept as they are, and a link
+-- to its parent stands for each path.
+use Rattle.std.specs.Prelude.{◌≡◌, ◌+◌, ◌*◌, ◌<◌, ◌≤◌, ℕ, Bool, false, List, [], ◌∷◌, ◌++◌, length, fold, slice_index_or, slice_set, Option, Some, None, IfSome, MatchOption}
+use Rattle.std.specs.List.{sum_by}
+use Rattle.std.specs.Option.{option_to_list}
+use Rattle.wp_task.specs.Task.{PlanningTask}
+use Rattle.wp_task.specs.Novelty.{Generated}
+use Rattle.wp_count.specs.declared.brood.Child.{Child}
+use Rattle.wp_count.specs.Broods.{children_of}
+use Rattle.wp_count.specs.Laws.{IsMarked, mark_of}
+use Rattle.wp_watch.specs.declared.event.Event.{Event}
+use Rattle.wp_plain.specs.declared.settings.Settings.{Settings}
+use Rattle.wp_plain.specs.declared.ending.Counts.{Counts}
+use Rattle.wp_plain.specs.declared.ending.How.{How}
+use Rattle.wp_plain.specs.declared.explored.Link.{Link}
+use Rattle.wp_plain.specs.declared.explored.Way.{Way}
+use Rattle.wp_plain.specs.declared.explored.Explored.{Explored}
+use Rattle.wp_plain.specs.Nodes.{Node, Path, Successor, path_at, extended, generated_in}
+use Rattle.wp_plain.specs.Pairs.{pairs_in}
+use Rattle.wp_plain.specs.Expansion.{node_of}
+use Rattle.wp_plain.specs.Run.{Moment, Outcome, counts_of, run_from}
+use Rattle.wp_plain.specs.Run.Outcome.{Goes, Ends}
+
+-- past the end of a list
+abbrev pub no_node : Node
+no_node = record { generated = record { number = 0; counters = (0, 0); state = [] }; w = 0; kept = false; waits = false }
+
+abbrev pub no_way : Way
+no_way = record { back = None; mark = record { g = 0; r = 0; track = 0; got = [] } }
+
+abbrev pub node_at : List Node → ℕ → Node
+node_at nodes place = slice_index_or nodes place no_node
+
+abbrev pub way_at : List Way → ℕ → Way
+way_at ways place = slice_index_or ways place no_way
+
+abbrev pub track_at : List (List ℕ) → ℕ → List ℕ
+track_at tracks number = slice_index_or tracks number []
+
+-- the node that was found, by its place
+abbrev pub looked : List Node → Option ℕ → Option Node
+looked nodes None = None
+looked nodes (Some place) = Some (node_at nodes place)
+
+-- ---- paths by links
+-- the path to a state over its parent's
+abbrev pub path_over : List Path → List Bool → Option Link → Path
+path_over paths state None = record { acts = []; states = state ∷ [] }
+path_over paths state (Some link) = extended (path_at paths link.parent) (record { act = link.act; state = state })
+
+-- the states before the last one of it
+abbrev pub states_before : List Path → Option Link → List (List Bool)
+states_before paths None = []
+states_before paths (Some link) = (path_at paths link.parent).states
+
+-- what is kept of a node has its path, its counters, and the mark of its path
+pub record IsReached (task : PlanningTask) (paths : List Path) (tracks : List (List ℕ)) (place : ℕ) (x : Generated) (way : Way) : Type 0 where
+  pub numbered : x.number ≡ place
+  pub parent : IfSome way.back (λ link. link.parent < place)
+  pub path : path_at paths place ≡ path_over paths x.state way.back
+  pub has_track : way.mark.track < length tracks
+  pub counters : x.counters ≡ (way.mark.g, way.mark.r)
+  pub marked : IsMarked task x.state (states_before paths way.back) way.mark (track_at tracks way.mark.track)
+
+-- the lists that an expansion makes longer
+pub record Lists : Type 0 where
+  pub nodes : List Node
+  pub ways : List Way
+  pub tracks : List (List ℕ)
+
+abbrev pub lists_of : Explored → Lists
+lists_of e = record { nodes = e.nodes.items; ways = e.ways.items; tracks = e.tracks.items }
+
+pub record AreReached (task : PlanningTask) (paths : List Path) (lists : Lists) : Type 0 where
+  pub path_each : length paths ≡ length lists.nodes
+  pub way_each : length lists.ways ≡ length lists.nodes
+  pub each : (k : ℕ) → k < length lists.nodes →
+      IsReached task paths lists.tracks k (node_at lists.nodes k).generated (way_at lists.ways k)
+
+-- ---- children
+abbrev pub bare : Child → Successor
+bare c = record { act = c.act; state = c.state }
+
+abbrev pub child_pair : Child → ℕ × ℕ
+child_pair c = (c.g, c.r)
+
+abbrev pub numbered : ℕ → Child → Generated
+numbered number c = record { number = number; counters = (c.g, c.r); state = c.state }
+
+abbrev pub next_node : Settings → List Node → Child → Node
+next_node settings nodes c = node_of settings (generated_in nodes) (numbered (length nodes) c)
+
+-- the number of a child's track: a new one, or its parent's
+abbrev pub track_number : ℕ → ℕ → Option (List ℕ) → ℕ
+track_number tracks track None = track
+track_number tracks track (Some fresh) = tracks
+
+abbrev pub way_of : ℕ → ℕ → ℕ → Child → Way
+way_of tracks parent track c = record {
+  back = Some (record { parent = parent; act = c.act });
+  mark = mark_of c (track_number tracks track c.fresh);
+}
+
+-- the lists with one more child
+abbrev pub with_child : Settings → ℕ → ℕ → Lists → Child → Lists
+with_child settings parent track lists c = record {
+  nodes = lists.nodes ++ next_node settings lists.nodes c ∷ [];
+  ways = lists.ways ++ way_of (length lists.tracks) parent track c ∷ [];
+  tracks = lists.tracks ++ option_to_list c.fresh;
+}
+
+abbrev pub with_children : Settings → ℕ → ℕ → Lists → List Child → Lists
+with_children settings parent track lists children = fold (with_child settings parent track) lists children
+
+-- the lists in which the node at a place waits no longer
+abbrev pub without_waiting : ℕ → Lists → Lists
+without_waiting place lists = record lists { nodes = slice_set lists.nodes place (record (node_at lists.nodes place) { waits = false }) }
+
+-- the children of the node at a place
+abbrev pub brood_at : PlanningTask → Lists → ℕ → List Child
+brood_at task lists place = children_of task (node_at lists.nodes place).generated.state (way_at lists.ways place).mark
+    (track_at lists.tracks (way_at lists.ways place).mark.track)
+
+-- ---- moments
+abbrev pub moment_of : Explored → List Path → List Event → Moment
+moment_of e paths events = record { nodes = e.nodes.items; paths = paths; events = events }
+
+-- the search stands for the moment with these paths and events
+pub record StandsFor (task : PlanningTask) (settings : Settings) (e : Explored) (paths : List Path) (events : List Event) : Type 0 where
+  pub reached : AreReached task paths (lists_of e)
+  pub pairs : e.pairs.items ≡ pairs_in (generated_in e.nodes.items)
+  pub expanded : e.expanded ≡ length events
+  pub repeats : e.repeats ≡ sum_by (λ event. event.repeats) events
+  pub few : e.expanded ≤ settings.budget
+  pub bounded : e.repeats ≤ 1048576 * e.expanded
+
+-- the search stands for some moment
+abbrev pub StandsForSome : PlanningTask → Settings → Explored → Type 0
+StandsForSome task settings e = (paths : List Path) × (events : List Event) × StandsFor task settings e paths events
+
+-- a step from there: it goes on to a moment that the search then stands for, or it ends and changes nothing
+abbrev pub Steps : PlanningTask → Settings → Outcome → Explored → Explored → Option How → Type 0
+Steps task settings outcome e later how = MatchOption how
+    ((paths : List Path) × (events : List Event) × StandsFor task settings later paths events × (outcome ≡ Goes (moment_of later paths events)))
+    (λ end. (later ≡ e) × (outcome ≡ Ends end))
+
+-- the same, from each moment that the search stands for
+abbrev pub StepsFrom : PlanningTask → Settings → (Moment → Outcome) → Explored → Explored → Option How → Type 0
+StepsFrom task settings outcome e later how = (paths : List Path) (events : List Event) →
+    StandsFor task settings e paths events → Steps task settings (outcome (moment_of e paths events)) e later how
+
+-- a run ends so, at a moment that the search then stands for
+abbrev pub EndsAs : PlanningTask → Settings → How × Moment → Explored → How → Type 0
+EndsAs task settings end later how = (paths : List Path) × (events : List Event)
+    × StandsFor task settings later paths events × (end ≡ (how, moment_of later paths events))
+
+-- all the steps from each moment that the search stands for
+abbrev pub RunsFrom : PlanningTask → Settings → Explored → Explored → How → Type 0
+RunsFrom task settings e later how = (paths : List Path) (events : List Event) → StandsFor task settings e paths events →
+    EndsAs task settings (run_from task settings (settings.budget + 1) (moment_of e paths events)) later how
+
+-- the counts are those of each moment that the search stands for
+abbrev pub AreCountsOf : Explored → Counts → Type 0
+AreCountsOf e counts = (task : PlanningTask) (settings : Settings) (paths : List Path) (events : List Event) →
+    StandsFor task settings e paths events → counts ≡ counts_of (moment_of e paths events)
+
+-- the actions are those of the path to the place
+abbrev pub AreActsTo : Explored → ℕ → List ℕ → Type 0
+AreActsTo e place acts = (task : PlanningTask) (paths : List Path) →
+    AreReached task paths (lists_of e) → acts ≡ (path_at paths place).acts

@@ -1,0 +1,22 @@
+-- How many words the tables of novelties take: for each pair of counters (#g, #r) of the nodes one for each tuple.
+use Rattle.std.specs.Prelude.{◌==◌, ◌&&◌, ◌*◌, nat_lt, ℕ, Bool, List, [], ◌∷◌, ◌++◌, length, map, fold, if◌then◌else◌}
+use Rattle.std.specs.List.{list_any}
+use Rattle.wp_task.specs.Novelty.{Generated, tuples_in}
+
+abbrev pub has_pair : List (ℕ × ℕ) → ℕ × ℕ → Bool
+has_pair pairs x = list_any (λ (y : ℕ × ℕ). (y.0 == x.0) && (y.1 == x.1)) pairs
+
+-- the pairs, with one more
+abbrev pub with_pair : List (ℕ × ℕ) → ℕ × ℕ → List (ℕ × ℕ)
+with_pair pairs x = if has_pair pairs x then pairs else pairs ++ x ∷ []
+
+-- the pairs of the nodes, each once
+abbrev pub pairs_in : List Generated → List (ℕ × ℕ)
+pairs_in nodes = fold with_pair [] (map (λ x. x.counters) nodes)
+
+abbrev pub tuple_count : ℕ → ℕ → ℕ
+tuple_count width atoms = length (tuples_in width atoms)
+
+-- whether so many pairs want more words than the limit
+abbrev pub exceeds : ℕ → ℕ → ℕ → Bool
+exceeds words pairs tuples = nat_lt words (pairs * tuples)

@@ -1,0 +1,105 @@
+-- The search: BFWS(f5) and k-BFWS, one expansion after another, with its endings and counts.
+-- Ours: the goal is tested where a node comes first, before the budget; the limit of words is asked of all pairs of an
+-- expansion before its children are numbered, and an expansion that exceeds it is not counted.
+use Rattle.std.specs.Prelude.{◌≡◌, ◌==◌, ◌+◌, ◌-◌, ℕ, zero, suc, true, false, List, [], ◌∷◌, ◌++◌, length, map, count_by, slice_set, Option, Some, None}
+use Rattle.std.specs.List.{sum_by}
+use Rattle.wp_task.specs.Task.{PlanningTask}
+use Rattle.wp_watch.specs.declared.event.Event.{Event}
+use Rattle.wp_plain.specs.declared.settings.Settings.{Settings}
+use Rattle.wp_plain.specs.declared.ending.Counts.{Counts}
+use Rattle.wp_plain.specs.declared.ending.Ending.{Ending}
+use Rattle.wp_plain.specs.declared.ending.How.{How}
+use Rattle.wp_plain.specs.declared.ending.How.TheVariants.{Found, Emptied, Budget, Words}
+use Rattle.wp_plain.specs.Nodes.{Node, Path, Successor, path_at, extended, generated_in, states_kept, first_waiting}
+use Rattle.wp_plain.specs.Pairs.{pairs_in, tuple_count, exceeds}
+use Rattle.wp_plain.specs.Expansion.{successors_of, unseen, fresh_of, node_of, root_of, borns_of, event_of}
+
+-- a moment of the search: all numbered nodes by number, the paths to them, and the events so far
+pub record Moment : Type 0 where
+  pub nodes : List Node
+  pub paths : List Path
+  pub events : List Event
+
+-- what a step leads to
+pub data Outcome : Type 0 where
+  Goes : (moment : Moment) → Outcome
+  Ends : (how : How) → Outcome
+
+-- the moment after an expansion: the node waits no longer, its fresh children are nodes, and the event is told
+abbrev pub expanded : Moment → Node → ℕ → List Successor → List Node → Moment
+expanded m node repeats fresh nodes = record {
+  nodes = slice_set m.nodes node.generated.number (record node { waits = false }) ++ nodes;
+  paths = m.paths ++ map (extended (path_at m.paths node.generated.number)) fresh;
+  events = m.events ++ event_of node repeats (borns_of fresh nodes) ∷ [];
+}
+
+-- a node is expanded, unless the pairs of all nodes with its children want more words than the limit
+abbrev pub expand : PlanningTask → Settings → Moment → Node → Outcome
+expand task settings m node =
+    let successors = successors_of task.acts node.generated.state in
+    let fresh = unseen (λ x. x.state) (states_kept m.nodes) successors in
+    let children = fresh_of task (path_at m.paths node.generated.number).states (length m.nodes) fresh in
+    let all = generated_in m.nodes ++ children in
+    let pairs = length (pairs_in all) in
+    elim (exceeds settings.words pairs (tuple_count settings.width task.atoms)) [
+      | true ↦ Ends (Words pairs)
+      | false ↦ Goes (expanded m node (length successors - length fresh) fresh (map (node_of settings all) children))
+    ]
+
+-- the goal test, then the budget, then the expansion
+abbrev pub look_at : PlanningTask → Settings → Moment → Option Node → Outcome
+look_at task settings m None = Ends Emptied
+look_at task settings m (Some node) = elim (node.generated.counters.0 == 0) [
+  | true ↦ Ends (Found (path_at m.paths node.generated.number).acts)
+  | false ↦ elim (length m.events == settings.budget) [
+    | true ↦ Ends Budget
+    | false ↦ expand task settings m node
+  ]
+]
+
+abbrev pub step : PlanningTask → Settings → Moment → Outcome
+step task settings m = look_at task settings m (first_waiting m.nodes)
+
+-- at most so many steps; a run within its budget ends by one of them
+abbrev pub run_from : PlanningTask → Settings → ℕ → Moment → How × Moment
+run_from task settings zero m = (Budget, m)
+run_from task settings (suc steps) m = elim (step task settings m) [
+  | Goes next ↦ run_from task settings steps next
+  | Ends how ↦ (how, m)
+]
+
+-- the opening moment has the root alone
+abbrev pub opening : PlanningTask → Settings → Moment
+opening task settings = record {
+  nodes = root_of task settings ∷ [];
+  paths = record { acts = []; states = task.init ∷ [] } ∷ [];
+  events = [];
+}
+
+-- the run: its ending, and the moment at which it ends
+abbrev pub run : PlanningTask → Settings → How × Moment
+run task settings = elim (exceeds settings.words 1 (tuple_count settings.width task.atoms)) [
+  | true ↦ (Words 1, opening task settings)
+  | false ↦ run_from task settings (settings.budget + 1) (opening task settings)
+]
+
+abbrev pub counts_of : Moment → Counts
+counts_of m = record {
+  expanded = length m.events;
+  numbered = length m.nodes;
+  kept = count_by (λ n. n.kept) m.nodes;
+  pruned = length m.nodes - count_by (λ n. n.kept) m.nodes;
+  repeats = sum_by (λ e. e.repeats) m.events;
+  pairs = length (pairs_in (generated_in m.nodes));
+}
+
+abbrev pub ending_from : How × Moment → Ending
+ending_from end = record { how = end.0; counts = counts_of end.1 }
+
+abbrev pub ending_of : PlanningTask → Settings → Ending
+ending_of task settings = ending_from (run task settings)
+
+-- the number of workers, and of nodes whose children are evaluated ahead, play no part
+abbrev pub WorkersPlayNoPart : Type 0
+WorkersPlayNoPart = (task : PlanningTask) (settings : Settings) (workers ahead : ℕ) →
+    run task (record settings { workers = workers; ahead = ahead }) ≡ run task settings
