@@ -1,0 +1,5 @@
+pub mod StateLemmas
+pub mod NumberLemmas
+pub mod LinkedLemmas
+pub mod PlanLemmas
+mod Rows

@@ -1,0 +1,2 @@
+pub mod KeptNodes
+pub mod Links

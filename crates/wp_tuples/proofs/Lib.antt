@@ -1,0 +1,4 @@
+pub mod Triangles
+pub mod CountLemmas
+pub mod PlaceLemmas
+mod Rows
