@@ -1,6 +1,12 @@
 pub mod FetchLemmas
 pub mod PutLemmas
+pub mod LineLemmas
 pub mod ReplyLemmas
+pub mod HeadlineLemmas
 pub mod StepLemmas
 mod Rows
+mod TextRows
 pub mod ReadLemmas
+pub mod GroundLemmas
+pub mod NumberLemmas
+pub mod OptionLemmas

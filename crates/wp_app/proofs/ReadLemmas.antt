@@ -1,14 +1,24 @@
 -- What the code of reading a text meets.
-use Rattle.std.proofs.Common.{◌≡◌, Bool, true, false, List, sym, ap, subst, Ok, Err}
-use Rattle.std.specs.Prelude.{Option, None, Some, Result}
+use Rattle.std.proofs.Common.{◌≡◌, ℕ, List, [], ◌∷◌, sym, ap, ◌∙◌, subst, Ok, Err}
+use Rattle.std.specs.Prelude.{Option, None, Some, Result, IsTrue}
 use Rattle.wp_lex.specs.declared.item.Item.{Item}
 use Rattle.wp_lex.specs.declared.error.LexError.{LexError}
 use Rattle.wp_lex.specs.declared.error.LexError.TheVariants as lexical
 use Rattle.wp_lex.specs.Faults.{Explains}
 use Rattle.wp_syntax.specs.declared.error.Part.{Part}
+use Rattle.wp_syntax.specs.declared.error.PddlError.{PddlError}
+use Rattle.wp_syntax.specs.declared.error.PddlError.TheVariants as errors
+use Rattle.wp_syntax.specs.Reading.{Wrong, IsRefusal, refusal_at}
+use Rattle.wp_lift.specs.Problem.{Lifting}
+use Rattle.wp_lift.specs.Walk as walks
+use Rattle.wp_check.specs.declared.step.Step.{Step as PlanStep}
+use Rattle.wp_check.specs.declared.step.PlanError.{PlanError}
+use Rattle.wp_check.specs.declared.step.PlanError.TheVariants as plans
+use Rattle.wp_check.specs.PlanFile as plan_files
 use Rattle.wp_app.specs.Steps.{Step, goes}
-use Rattle.wp_app.specs.Stops.{Meets, is_want_of_memory}
-use Rattle.wp_app.specs.Output.{items_by, refused}
+use Rattle.wp_app.specs.Stops.{Meets}
+use Rattle.wp_app.specs.Refusals.{lex_text, pddl_text, plan_error_text, is_lexical_fault, is_pddl_fault, is_plan_fault}
+use Rattle.wp_app.specs.Output.{items_by, record_by, steps_by, lifted_by, refused}
 use Rattle.wp_app.specs.declared.stop.Stop.{Stop}
 use Rattle.wp_app.specs.declared.stop.Stop.TheVariants as stops
 
@@ -20,18 +30,47 @@ meets_items part fault items tree none same =
     subst (λ (f : Option LexError). Meets {A = List Item} (items_by part f items) (Ok tree)) (sym none)
     (record { defined = tt; gives = ap goes (sym same); read = λ h. h })
 
--- an error other than want of memory is the fault
-fault_there : (error : LexError) (fault : Option LexError) → Explains error fault → is_want_of_memory error ≡ false → (found : LexError) × (fault ≡ Some found)
-fault_there (lexical.BadByte at) fault h other = (lexical.BadByte at, h)
-fault_there (lexical.Unopened at) fault h other = (lexical.Unopened at, h)
-fault_there lexical.Unclosed fault h other = (lexical.Unclosed, h)
-fault_there (lexical.Trailing at) fault h other = (lexical.Trailing at, h)
-fault_there (lexical.TooDeep at) fault h other = (lexical.TooDeep at, h)
-fault_there lexical.Empty fault h other = (lexical.Empty, h)
-fault_there lexical.Memory fault h other = cc
+-- a step that ends with the line of a fault, and the code that made the line
+pub meets_refused : {A : Type 0} (step : Step A) (text line : List ℕ) (result : Result A Stop) → step ≡ refused text → line ≡ text → Meets {A = A} (refused line) result → Meets {A = A} step result
+meets_refused {A} step text line result ends same meets =
+    subst (λ (s : Step A). Meets s result) (sym (ends ∙ ap refused (sym same))) meets
 
-pub meets_refused : (part : Part) (error : LexError) (fault : Option LexError) (items : List Item) (result : Result (List Item) Stop)
-    → Explains error fault → is_want_of_memory error ≡ false → Meets {A = List Item} (refused part) result → Meets {A = List Item} (items_by part fault items) result
-meets_refused part error fault items result h other meets =
-    let there = fault_there error fault h other in
-    subst (λ (f : Option LexError). Meets {A = List Item} (items_by part f items) result) (sym there.1) meets
+-- an error other than want of memory is the fault
+explained : (error : LexError) (fault : Option LexError) → Explains error fault → IsTrue (is_lexical_fault error) → fault ≡ Some error
+explained (lexical.BadByte at) fault h is = h
+explained (lexical.Unopened at) fault h is = h
+explained lexical.Unclosed fault h is = h
+explained (lexical.Trailing at) fault h is = h
+explained (lexical.TooDeep at) fault h is = h
+explained lexical.Empty fault h is = h
+explained lexical.Memory fault h is = cc
+
+pub refused_items : (part : Part) (error : LexError) (fault : Option LexError) (items : List Item) → Explains error fault → IsTrue (is_lexical_fault error) → items_by part fault items ≡ refused (lex_text part error)
+refused_items part error fault items h is = ap (λ (f : Option LexError). items_by part f items) (explained error fault h is)
+
+-- the first fault of a list is the one that is told
+refused_first : {A : Type 0} (part told : Part) (fault wrong : Wrong) (faults : List Wrong) (value : A) → told ≡ part → Some fault ≡ Some wrong → record_by part (fault ∷ faults) value ≡ refused (pddl_text (refusal_at told wrong))
+refused_first part told fault wrong faults value same e =
+    let p : fault ≡ wrong = cc in
+    λ i. refused (pddl_text (refusal_at (sym same i) (p i)))
+
+pub refused_record : {A : Type 0} (part : Part) (error : PddlError) (faults : List Wrong) (value : A) → IsRefusal part faults error → IsTrue (is_pddl_fault error) → record_by part faults value ≡ refused (pddl_text error)
+refused_record part errors.Memory faults value h is = cc
+refused_record part (errors.Bad told kind at) [] value h is = let no = h.1 in cc
+refused_record part (errors.Bad told kind at) (fault ∷ faults) value h is = refused_first part told fault (record { kind = kind; at = at }) faults value h.0 h.1
+
+refused_fault : (fault wrong : walks.Fault) (faults : List walks.Fault) (value : Lifting) → Some fault ≡ Some wrong → lifted_by (fault ∷ faults) value ≡ refused (pddl_text (errors.Bad wrong.part wrong.kind wrong.at))
+refused_fault fault wrong faults value e =
+    let p : fault ≡ wrong = cc in
+    ap (λ (f : walks.Fault). lifted_by (f ∷ faults) value) p
+
+pub refused_lifting : (error : PddlError) (faults : List walks.Fault) (value : Lifting) → walks.Fails error faults → IsTrue (is_pddl_fault error) → lifted_by faults value ≡ refused (pddl_text error)
+refused_lifting errors.Memory faults value h is = cc
+refused_lifting (errors.Bad part kind at) [] value h is = cc
+refused_lifting (errors.Bad part kind at) (fault ∷ faults) value h is = refused_fault fault (record { part = part; kind = kind; at = at }) faults value h
+
+-- an error other than want of memory is what reading a plan file gives
+pub refused_steps : (error : PlanError) (plan : Result (List PlanStep) PlanError) → plan_files.Fails error plan → IsTrue (is_plan_fault error) → steps_by plan ≡ refused (plan_error_text error)
+refused_steps (plans.Lex fault) plan h is = ap steps_by h
+refused_steps (plans.Shape at) plan h is = ap steps_by h
+refused_steps plans.Memory plan h is = cc

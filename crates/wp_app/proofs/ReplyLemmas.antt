@@ -1,6 +1,6 @@
 -- What is to be written for words is what their command answers, and the usage where they have none.
 use Rattle.std.proofs.Common.{◌≡◌, ◌≢◌, ℕ, List, true, false, refl, sym, ◌∙◌, ap, subst, Ok, Err, inl, inr}
-use Rattle.std.specs.Prelude.{Option, Some, None, Result, IsSome, IsTrue, ◌⊎◌}
+use Rattle.std.specs.Prelude.{Option, Some, None, IsSome, IsTrue, ◌⊎◌}
 use Rattle.wp_edge.specs.Faults.{Rose}
 use Rattle.wp_edge.specs.Fetch.{Contents}
 use Rattle.wp_syntax.specs.declared.error.Part.{Part}
@@ -9,15 +9,16 @@ use Rattle.wp_app.specs.declared.reply.Reply.{Reply}
 use Rattle.wp_app.specs.declared.reply.Status.{Status}
 use Rattle.wp_app.specs.declared.reply.Status.TheVariants as statuses
 use Rattle.wp_app.specs.declared.stop.Stop.{Stop}
-use Rattle.wp_app.specs.declared.stop.Stop.TheVariants.{Ends, ReadFault, Memory}
+use Rattle.wp_app.specs.declared.stop.Stop.TheVariants.{Ends, ReadFault}
 use Rattle.wp_app.specs.declared.words.Command.{Command}
-use Rattle.wp_app.specs.declared.words.Command.TheVariants.{Check}
-use Rattle.wp_app.specs.Steps.{Step, missing, ends, goes, reply_of, ◌>>=◌}
+use Rattle.wp_app.specs.declared.words.Command.TheVariants.{Check, Ground}
+use Rattle.wp_app.specs.declared.words.Command.TheVariants as commands
+use Rattle.wp_app.specs.Steps.{Step, missing, goes, reply_of, ◌>>=◌}
 use Rattle.wp_app.specs.Words.{command_of}
 use Rattle.wp_app.specs.Names.{file_of}
 use Rattle.wp_app.specs.Statuses.{is_defined, is_of_files}
 use Rattle.wp_app.specs.Texts.{read_fault_text, usage_text}
-use Rattle.wp_app.specs.Output.{answer_of, answered, command_step, run_step, steps_of}
+use Rattle.wp_app.specs.Output.{answered, command_step, run_step, steps_of}
 use Rattle.wp_app.specs.Stops.{Follows, IfUnread}
 use Rattle.wp_app.specs.Headline.{IsReached, IsReply, IsReplyTo, IsUsageOf, ShelfFailed}
 
@@ -76,10 +77,17 @@ failed : (words : List (List ℕ)) (command : Command) (contents : Option Conten
 failed words command contents before now named (inl rose) = inl rose
 failed words command contents before now named (inr at) = inr (at.0, at.1, ap reply_of (steps_named words command at.0 named ∙ at.2))
 
-named_file : (command : Command) (part : Part) → IsSome (file_of command part)
-named_file (Check domain problem plan) Domain = refl
-named_file (Check domain problem plan) Problem = refl
-named_file (Check domain problem plan) Plan = refl
+-- a run comes to files that its command names
+named_file : (contents : Option Contents) (command : Command) (part : Part) → IsReached contents command part → IsSome (file_of command part)
+named_file contents (Check domain problem plan) Domain reached = refl
+named_file contents (Check domain problem plan) Problem reached = refl
+named_file contents (Check domain problem plan) Plan reached = refl
+named_file contents (Ground domain problem) Domain reached = refl
+named_file contents (Ground domain problem) Problem reached = refl
+named_file contents (Ground domain problem) Plan reached = absurd reached
+named_file contents (commands.Plan domain problem settings) Domain reached = refl
+named_file contents (commands.Plan domain problem settings) Problem reached = refl
+named_file contents (commands.Plan domain problem settings) Plan reached = absurd reached
 
 abbrev unread_line : List ℕ → Reply
 unread_line text = record { text = text; status = statuses.ReadFault }
@@ -95,7 +103,7 @@ replied_unread command contents before now part text stop same is follows reache
         part,
         ap unread_line is,
         record {
-          next = record { command = command; reads = named; names = named_file command part; reached = came };
+          next = record { command = command; reads = named; names = named_file contents command part came; reached = came };
           fault = failed words command contents before now named (missed.fault tt);
         },
       ),

@@ -62,3 +62,26 @@ goes_on_unread {contents = contents} {step = step} {before = before} {now = now}
     | inr at ↦ inr (at.0, at.1, ap (λ s. s >>= next at.0) meets.gives ∙ at.2)
   ];
 }
+
+-- a step over the files and then one that reads none
+pub goes_on_to : {A B : Type 0} {contents : Option Contents} {step : Contents → Step A} {before now : ℕ} {value : A} {result : Result B Stop} (next : A → Step B) → Follows {A = A} contents step before now (Ok value) → Meets {A = B} (next value) result → Follows {A = B} contents (λ files. step files >>= next) before now result
+goes_on_to {step = step} {value = value} {result = result} next follows rest = record {
+  defined = rest.defined;
+  gives = λ files told. gives_next (step files) next value result (follows.gives files told) rest.gives;
+  fault = λ unread. absurd (rest.read unread);
+}
+
+-- the same of steps of which none reads a file
+pub meets_next : {A B : Type 0} {step : Step A} {value : A} {result : Result B Stop} (next : A → Step B) → Meets {A = A} step (Ok value) → Meets {A = B} (next value) result → Meets {A = B} (step >>= next) result
+meets_next {step = step} {value = value} {result = result} next meets rest = record {
+  defined = rest.defined;
+  gives = gives_next step next value result meets.gives rest.gives;
+  read = rest.read;
+}
+
+pub meets_stop : {A B : Type 0} {step : Step A} {stop : Stop} (next : A → Step B) → Meets {A = A} step (Err stop) → Meets {A = B} (step >>= next) (Err stop)
+meets_stop {A} {B} {step} {stop} next meets = record {
+  defined = meets.defined;
+  gives = gives_stop step next stop meets.gives;
+  read = λ unread. meets.read (unread_stop A B stop unread);
+}

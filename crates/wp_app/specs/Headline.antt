@@ -9,9 +9,9 @@ use Rattle.wp_syntax.specs.declared.records.Domain.{Domain}
 use Rattle.wp_app.specs.declared.reply.Reply.{Reply}
 use Rattle.wp_app.specs.declared.reply.Status.{Status}
 use Rattle.wp_app.specs.declared.reply.Status.TheVariants as statuses
-use Rattle.wp_app.specs.declared.check.Texts.{Texts}
+use Rattle.wp_app.specs.declared.inputs.Texts.{Texts}
 use Rattle.wp_app.specs.declared.words.Command.{Command}
-use Rattle.wp_app.specs.declared.words.Command.TheVariants.{Check}
+use Rattle.wp_app.specs.declared.words.Command.TheVariants.{Check, Ground, Plan}
 use Rattle.wp_app.specs.Steps.{goes, ◌>>=◌}
 use Rattle.wp_app.specs.Words.{command_of}
 use Rattle.wp_app.specs.Names.{file_of}
@@ -65,6 +65,8 @@ IsReached contents (Check domain problem plan) parts.Problem =
     (files : Contents) → contents ≡ Some files → (read : Domain) × ((part_of parts.Domain domain files >>= domain_step) ≡ goes read)
 IsReached contents (Check domain problem plan) parts.Plan =
     (files : Contents) → contents ≡ Some files → (texts : Texts) × (texts_step domain problem files ≡ goes texts)
+IsReached contents (Ground domain problem) part = IsInputReached contents domain part
+IsReached contents (Plan domain problem settings) part = IsInputReached contents domain part
 
 -- the words name the part's file, and the run comes to it
 pub record IsNext (words : List (List ℕ)) (contents : Option Contents) (part : Part) : Type 0 where

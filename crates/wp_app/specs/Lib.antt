@@ -1,7 +1,12 @@
 pub mod Steps
+pub mod Numbers
+pub mod Options
 pub mod Words
 pub mod Names
 pub mod Texts
+pub mod Refusals
+pub mod TaskText
+pub mod Endings
 pub mod Output
 pub mod Statuses
 pub mod Stops

@@ -1,7 +1,8 @@
 -- The output of words and files: one text and one status, or none where it comes to a file that is not there. It is the first of
 -- these that has an answer: words without a command; of the domain, then the problem, then the plan, a file that is too long, then
--- a fault of its text; a fault of the names; the verdict.
-use Rattle.std.specs.Prelude.{ℕ, nat_lt, Bool, true, false, Option, None, Some, Result, Ok, Err, List, [], ◌∷◌, length}
+-- a fault of its text; a fault of the names; for `check` the verdict; for `ground` the cause against a task, or
+-- the task; for `plan` that cause, or how the search of the task ends.
+use Rattle.std.specs.Prelude.{ℕ, nat_lt, true, false, Option, None, Some, Result, Ok, Err, List, [], ◌∷◌, length}
 use Rattle.std.specs.FinMap.{get}
 use Rattle.wp_edge.specs.Fetch.{Contents}
 use Rattle.wp_lex.specs.declared.error.LexError.{LexError}
@@ -11,12 +12,12 @@ use Rattle.wp_lex.specs.Faults.{fault_of}
 use Rattle.wp_lex.specs.Items.{items_of}
 use Rattle.wp_syntax.specs.declared.error.Part.{Part}
 use Rattle.wp_syntax.specs.declared.error.Part.TheVariants as parts
+use Rattle.wp_syntax.specs.declared.error.PddlError.TheVariants as errors
 use Rattle.wp_syntax.specs.declared.records.Domain.{Domain}
 use Rattle.wp_syntax.specs.declared.records.Problem.{Problem}
-use Rattle.wp_syntax.specs.Reading.{Wrong}
+use Rattle.wp_syntax.specs.Reading.{Wrong, refusal_at}
 use Rattle.wp_syntax.specs.Domains.{domain_of}
 use Rattle.wp_syntax.specs.Problems.{problem_of}
-use Rattle.wp_syntax.specs.Unbuilt.{domain_unbuilt, problem_unbuilt}
 use Rattle.wp_lift.specs.Problem.{Lifting}
 use Rattle.wp_lift.specs.Walk.{Fault}
 use Rattle.wp_lift.specs.Lifting.{lifting_of}
@@ -26,15 +27,29 @@ use Rattle.wp_check.specs.declared.cause.Verdict.{Verdict}
 use Rattle.wp_check.specs.declared.cause.Verdict.TheVariants.{Valid, Bad, GoalUnmet}
 use Rattle.wp_check.specs.PlanFile.{plan_of}
 use Rattle.wp_check.specs.Verdicts.{verdict_of}
+use Rattle.wp_ground.specs.declared.grounding.Grounded.{Grounded}
+use Rattle.wp_ground.specs.declared.grounding.GroundError.{GroundError}
+use Rattle.wp_ground.specs.declared.grounding.GroundError.TheVariants as grounds
+use Rattle.wp_ground.specs.Refusals.{grounded_of, refusal_of}
 use Rattle.wp_app.specs.declared.reply.Reply.{Reply}
 use Rattle.wp_app.specs.declared.reply.Status.{Status}
 use Rattle.wp_app.specs.declared.reply.Status.TheVariants as statuses
-use Rattle.wp_app.specs.declared.check.Texts.{Texts}
+use Rattle.wp_app.specs.declared.inputs.Texts.{Texts}
 use Rattle.wp_app.specs.declared.words.Command.{Command}
-use Rattle.wp_app.specs.declared.words.Command.TheVariants.{Check}
+use Rattle.wp_app.specs.declared.words.Command.TheVariants.{Check, Ground, Plan}
 use Rattle.wp_app.specs.Steps.{Step, missing, ends, goes, reply_of, ◌>>=◌}
 use Rattle.wp_app.specs.Words.{command_of}
-use Rattle.wp_app.specs.Texts.{usage_text, too_long_text, refusal_text, verdict_text}
+use Rattle.wp_app.specs.Texts.{usage_text, too_long_text, verdict_text}
+use Rattle.wp_app.specs.Refusals.{lex_text, pddl_text, plan_error_text}
+use Rattle.wp_app.specs.TaskText.{ground_text}
+use Rattle.wp_app.specs.Endings.{ending_text, ground_error_text, text_of_counts}
+use Rattle.wp_plain.specs.declared.settings.Search.{Search}
+use Rattle.wp_plain.specs.declared.settings.Search.TheVariants.{KBfws, F5}
+use Rattle.wp_plain.specs.declared.settings.Settings.{Settings}
+use Rattle.wp_plain.specs.declared.ending.Ending.{Ending}
+use Rattle.wp_plain.specs.declared.ending.How.{How}
+use Rattle.wp_plain.specs.declared.ending.How.TheVariants as hows
+use Rattle.wp_plain.specs.Run.{ending_of}
 
 -- the most bytes that the file of a part may have
 abbrev pub limit_of : Part → ℕ
@@ -45,8 +60,9 @@ limit_of parts.Plan = 16777216
 abbrev pub answered : {A : Type 0} → Status → List ℕ → Step A
 answered status text = ends (record { text = text; status = status })
 
-abbrev pub refused : {A : Type 0} → Part → Step A
-refused part = answered statuses.Refused (refusal_text part)
+-- the line of a fault
+abbrev pub refused : {A : Type 0} → List ℕ → Step A
+refused text = answered statuses.Refused text
 
 unfoldable pub command_step : List (List ℕ) → Step Command
 command_step words = elim (command_of words) [ Some command ↦ goes command | None ↦ answered statuses.Usage usage_text ]
@@ -62,29 +78,24 @@ within part (Some bytes) = elim (nat_lt (limit_of part) (length bytes)) [
 unfoldable pub part_of : Part → List ℕ → Contents → Step (List ℕ)
 part_of part name files = within part (get files name)
 
--- Forms of the grammar that are not built yet are refused, where a text has no fault.
-abbrev pub if_built : {A : Type 0} → Part → Bool → A → Step A
-if_built part true value = refused part
-if_built part false value = goes value
-
 -- the record of a list, where it has one
-abbrev pub record_by : {A : Type 0} → Part → List Wrong → Bool → A → Step A
-record_by part (fault ∷ faults) unbuilt value = refused part
-record_by part [] unbuilt value = if_built part unbuilt value
+abbrev pub record_by : {A : Type 0} → Part → List Wrong → A → Step A
+record_by part (fault ∷ faults) value = refused (pddl_text (refusal_at part fault))
+record_by part [] value = goes value
 
 -- the items of a text without a lexical fault
 abbrev pub items_by : Part → Option LexError → List Item → Step (List Item)
-items_by part (Some fault) items = refused part
+items_by part (Some fault) items = refused (lex_text part fault)
 items_by part None items = goes items
 
 unfoldable pub items_step : Part → List ℕ → Step (List Item)
 items_step part text = items_by part (fault_of text) (items_of text)
 
 unfoldable pub domain_in : List Item → Step Domain
-domain_in items = let trees = trees_of items in let read = domain_of trees in record_by parts.Domain read.faults (domain_unbuilt trees) read.value
+domain_in items = let read = domain_of (trees_of items) in record_by parts.Domain read.faults read.value
 
 unfoldable pub problem_in : List Item → Step Problem
-problem_in items = let trees = trees_of items in let read = problem_of trees in record_by parts.Problem read.faults (problem_unbuilt trees) read.value
+problem_in items = let read = problem_of (trees_of items) in record_by parts.Problem read.faults read.value
 
 unfoldable pub domain_step : List ℕ → Step Domain
 domain_step text = do
@@ -98,7 +109,7 @@ problem_step text = do
 
 abbrev pub steps_by : Result (List PlanStep) PlanError → Step (List PlanStep)
 steps_by (Ok steps) = goes steps
-steps_by (Err error) = refused parts.Plan
+steps_by (Err error) = refused (plan_error_text error)
 
 unfoldable pub plan_step : List ℕ → Step (List PlanStep)
 plan_step text = steps_by (plan_of text)
@@ -106,7 +117,7 @@ plan_step text = steps_by (plan_of text)
 -- the first fault of names is in the text of its part
 abbrev pub lifted_by : List Fault → Lifting → Step Lifting
 lifted_by [] value = goes value
-lifted_by (fault ∷ faults) value = refused fault.part
+lifted_by (fault ∷ faults) value = refused (pddl_text (errors.Bad fault.part fault.kind fault.at))
 
 unfoldable pub lifted_step : Domain → Problem → Step Lifting
 lifted_step domain problem = let walk = lifting_of domain problem in lifted_by walk.faults walk.value
@@ -140,10 +151,62 @@ check_step texts plan files = do
   steps ← plan_step plan_text
   judged_step texts steps
 
+abbrev pub ground_error_status : GroundError → Status
+ground_error_status grounds.TooManyActs = statuses.Limit
+ground_error_status grounds.TooManyAtoms = statuses.Limit
+ground_error_status (grounds.GoalOutOfReach goal atom) = statuses.OutOfReach
+ground_error_status grounds.Memory = statuses.Memory
+
+-- the task, where there is no cause against it
+abbrev pub task_by : Option GroundError → Grounded → Step Grounded
+task_by (Some error) grounded = answered (ground_error_status error) (ground_error_text error)
+task_by None grounded = goes grounded
+
+unfoldable pub grounded_step : Lifting → Step Grounded
+grounded_step lifted = task_by (refusal_of lifted) (grounded_of lifted)
+
+unfoldable pub ground_reply : Grounded → Reply
+ground_reply grounded = record { text = ground_text grounded; status = statuses.Done }
+
+abbrev pub ending_status : Search → How → Status
+ending_status search (hows.Found plan) = statuses.Done
+ending_status F5 hows.Emptied = statuses.NoPlan
+ending_status KBfws hows.Emptied = statuses.QueueEmpty
+ending_status search hows.Budget = statuses.Budget
+ending_status search (hows.Words pairs) = statuses.Words
+
+unfoldable pub ending_reply : Settings → Grounded → Ending → Reply
+ending_reply settings grounded ending = record {
+  text = ending_text settings grounded ending.how (text_of_counts ending.counts);
+  status = ending_status settings.search ending.how;
+}
+
+-- the ending of the search of the task
+unfoldable pub searched_reply : Settings → Grounded → Reply
+searched_reply settings grounded = ending_reply settings grounded (ending_of grounded.task settings)
+
+unfoldable pub planned_step : Settings → Texts → Step Reply
+planned_step settings texts = do
+  lifted ← lifted_step texts.domain texts.problem
+  grounded ← grounded_step lifted
+  goes (searched_reply settings grounded)
+
+unfoldable pub numbered_step : Texts → Step Reply
+numbered_step texts = do
+  lifted ← lifted_step texts.domain texts.problem
+  grounded ← grounded_step lifted
+  goes (ground_reply grounded)
+
 unfoldable pub run_step : Command → Contents → Step Reply
 run_step (Check domain problem plan) files = do
   texts ← texts_step domain problem files
   check_step texts plan files
+run_step (Ground domain problem) files = do
+  texts ← texts_step domain problem files
+  numbered_step texts
+run_step (Plan domain problem settings) files = do
+  texts ← texts_step domain problem files
+  planned_step settings texts
 
 unfoldable pub steps_of : List (List ℕ) → Contents → Step Reply
 steps_of words files = do

@@ -1,10 +1,8 @@
 -- How the code of a step meets the definition of that step. The code stops with a reply where the definition ends with it, and
 -- besides where a file was not read or memory was refused.
-use Rattle.std.specs.Prelude.{◌≡◌, ℕ, Option, Some, Result, Ok, Err, IfErr, IsTrue, ◌⊎◌, Bool, true, false}
+use Rattle.std.specs.Prelude.{◌≡◌, ℕ, Option, Some, Result, Ok, Err, IfErr, IsTrue, ◌⊎◌}
 use Rattle.wp_edge.specs.Faults.{Rose}
 use Rattle.wp_edge.specs.Fetch.{Contents}
-use Rattle.wp_lex.specs.declared.error.LexError.{LexError}
-use Rattle.wp_lex.specs.declared.error.LexError.TheVariants as lexical
 use Rattle.wp_syntax.specs.declared.error.Part.{Part}
 use Rattle.wp_app.specs.Steps.{Step, missing, ends, goes}
 use Rattle.wp_app.specs.Statuses.{is_of_files}
@@ -49,7 +47,3 @@ pub record Follows {A : Type 0} (contents : Option Contents) (step : Contents �
   pub defined : IfErr result IsDefinedStop
   pub gives : (files : Contents) → contents ≡ Some files → Gives (step files) result
   pub fault : IsReadFault result → Rose before now ⊎ ((files : Contents) × (contents ≡ Some files) × (step files ≡ missing))
-
-abbrev pub is_want_of_memory : LexError → Bool
-is_want_of_memory lexical.Memory = true
-is_want_of_memory error = false

@@ -1,15 +1,14 @@
--- The lines of the answers. Each ends with a line feed. A ground atom or a step is a bracket, a name, each argument after one
--- space, and a bracket; numbers are plain decimal.
-use Rattle.std.specs.Prelude.{ℕ, ◌-◌, List, [], ◌∷◌, ◌++◌, length, map, codes, decimal, slice_index_or}
-use Rattle.std.specs.List.{flat_map}
+-- The lines of the answers. Each ends with a line feed; numbers are plain decimal.
+use Rattle.std.specs.Prelude.{ℕ, ◌-◌, List, [], ◌∷◌, ◌++◌, length, codes, decimal, slice_index_or}
 use Rattle.wp_syntax.specs.declared.error.Part.{Part}
 use Rattle.wp_syntax.specs.declared.error.Part.TheVariants.{Domain, Problem, Plan}
 use Rattle.wp_lift.specs.declared.atoms.GroundAtom.{GroundAtom}
 use Rattle.wp_lift.specs.declared.schemas.Schema.{Schema}
 use Rattle.wp_lift.specs.declared.schemas.SlotCond.{SlotCond}
 use Rattle.wp_lift.specs.declared.schemas.SlotCond.TheVariants.{Atom, Same, Differ}
-use Rattle.wp_lift.specs.Problem.{Lifting, Instance, schema_at, pred_at}
+use Rattle.wp_lift.specs.Problem.{Lifting, Instance, schema_at}
 use Rattle.wp_lift.specs.Worlds.{grounded, object_in}
+use Rattle.wp_ground.specs.Texts.{object_text, atom_text}
 use Rattle.wp_check.specs.declared.step.Step.{Step}
 use Rattle.wp_check.specs.declared.cause.Why.{Why}
 use Rattle.wp_check.specs.declared.cause.Why.TheVariants.{UnknownAction, Arguments, UnknownObject, Misfit, Condition}
@@ -24,16 +23,6 @@ abbrev pub part_text : Part → List ℕ
 part_text Domain = codes "domain"
 part_text Problem = codes "problem"
 part_text Plan = codes "plan"
-
--- a name and its arguments in brackets
-abbrev pub form_text : List ℕ → List (List ℕ) → List ℕ
-form_text name args = 40 ∷ name ++ flat_map (λ (arg : List ℕ). 32 ∷ arg) args ++ 41 ∷ []
-
-abbrev pub object_text : Lifting → ℕ → List ℕ
-object_text lifted number = slice_index_or lifted.objects number []
-
-abbrev pub atom_text : Lifting → GroundAtom → List ℕ
-atom_text lifted atom = form_text (pred_at lifted atom.pred).name (map (object_text lifted) atom.args)
 
 abbrev pub equality_text : Lifting → ℕ → ℕ → List ℕ
 equality_text lifted a b = codes "(= " ++ object_text lifted a ++ codes " " ++ object_text lifted b ++ codes ")"
@@ -82,10 +71,6 @@ too_long_text part limit = line (codes "; limit: " ++ part_text part ++ codes " 
 
 unfoldable pub read_fault_text : Part → List ℕ
 read_fault_text part = line (codes "; read fault: " ++ part_text part)
-
--- Exact faults are not built yet: a text is refused by its part alone.
-unfoldable pub refusal_text : Part → List ℕ
-refusal_text part = line (codes "; refused: " ++ part_text part)
 
 unfoldable pub usage_text : List ℕ
 usage_text =

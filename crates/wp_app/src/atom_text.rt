@@ -2,7 +2,8 @@
 
 ghost use Rattle.std.specs.Prelude.{◌≡◌, ◌∷◌, ◌++◌, [], List, ℕ, map, OnOk};
 ghost use Rattle.std.specs.List.{flat_map};
-ghost use Rattle.wp_app.specs.Texts.{atom_text, equality_text, literal_text, object_text};
+ghost use Rattle.wp_app.specs.Texts.{equality_text, literal_text};
+ghost use Rattle.wp_ground.specs.Texts.{atom_text, object_text};
 ghost use Rattle.wp_lift.specs.Problem.{pred_at};
 
 use std::alloc::{AllocError, Global};

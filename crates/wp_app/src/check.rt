@@ -1,27 +1,21 @@
 //! The answer to `check`: the domain and the problem are fetched and read, then the plan, and then it is judged.
 
 ghost use Rattle.std.specs.Prelude.{◌≡◌, ◌≤◌, IfOk, IsTrue, IsUtf8};
-ghost use Rattle.wp_app.specs.Headline.{IsInputReached, IsReached};
-ghost use Rattle.wp_app.specs.Output.{run_step, texts_step, check_step};
+ghost use Rattle.wp_app.specs.Headline.{IsReached};
+ghost use Rattle.wp_app.specs.Output.{run_step, check_step};
 ghost use Rattle.wp_app.specs.Statuses.{is_of_files};
 ghost use Rattle.wp_app.specs.Stops.{Follows, IfUnread};
 ghost use Rattle.wp_app.specs.declared.words.Command.TheVariants.{Check};
 ghost use Rattle.wp_syntax.specs.declared.error.Part.TheVariants.{Plan};
 
 use crate::fetch::read_part;
-use crate::readers::{domain_of, judge, problem_of, steps_of};
+use crate::inputs::{Texts, read_texts};
+use crate::readers::{judge, steps_of};
 use crate::reply::Reply;
 use crate::stop::Stop;
 use std::alloc::Global;
 use wp_edge::{Shelf, Text};
-use wp_syntax::{Domain, Part, Problem};
-
-/// A domain and a problem.
-#[derive(Drop)]
-pub struct Texts {
-    pub domain: Domain,
-    pub problem: Problem,
-}
+use wp_syntax::Part;
 
 /// The verdict on a plan in a domain and a problem, of the files of these names.
 #[tactic(auto, unfolding(crate::specs::Output::run_step))]
@@ -43,31 +37,6 @@ pub fn check<S: Shelf>(
 {
     let texts = read_texts(alloc, shelf, domain, problem)?;
     check_plan(alloc, shelf, &texts, plan)
-}
-
-/// The domain and the problem of these names. The domain is read before the problem is fetched.
-#[tactic(auto, unfolding(crate::specs::Output::texts_step))]
-fn read_texts<S: Shelf>(
-    alloc: Global,
-    shelf: &mut S,
-    domain: &Text,
-    problem: &Text,
-) -> Result<Texts, Stop>
-    requires domain { IsUtf8 domain.now }
-    requires problem { IsUtf8 problem.now }
-    ensures follows { Follows (S.contents shelf.old) (texts_step domain.now problem.now) (S.faults shelf.old) (S.faults shelf.new) result }
-    ensures unread { IfUnread result (IsInputReached (S.contents shelf.old) domain.now) }
-    ensures same { S.contents shelf.new ≡ S.contents shelf.old }
-    ensures later { S.faults shelf.old ≤ S.faults shelf.new }
-{
-    let domain_text = read_part(alloc, shelf, Part::Domain, domain)?;
-    let domain_record = domain_of(alloc, &domain_text)?;
-    let problem_text = read_part(alloc, shelf, Part::Problem, problem)?;
-    let problem_record = problem_of(alloc, &problem_text)?;
-    Ok(Texts {
-        domain: domain_record,
-        problem: problem_record,
-    })
 }
 
 /// The verdict on the plan of that name.

@@ -6,9 +6,9 @@ ghost use Rattle.wp_app.specs.Texts.{too_long_text};
 ghost use Rattle.wp_app.specs.declared.reply.Status.TheVariants.{Limit};
 ghost use Rattle.wp_app.specs.Stops.{Follows, Meets, IfUnread};
 
-use crate::reply::{Reply, Status};
-use crate::stop::Stop;
-use crate::texts::too_long_line;
+use crate::reply::Status;
+use crate::stop::{Stop, ended};
+use crate::texts::too_long_text;
 use std::alloc::Global;
 use std::str;
 use wp_edge::{FetchError, Shelf, Text};
@@ -43,11 +43,7 @@ pub fn read_part<S: Shelf>(
 fn too_long(alloc: Global, part: Part) -> Result<Text, Stop>
     ensures { Meets (answered Limit (too_long_text part (limit_of part))) result }
 {
-    let text = too_long_line(alloc, part, limit(part))?;
-    let status = Status::Limit;
-    Err(Stop::Ends {
-        reply: Reply { text, status },
-    })
+    ended(Status::Limit, too_long_text(alloc, part, limit(part))?)
 }
 
 /// The most bytes that the file of a part may have.

@@ -9,14 +9,23 @@
 
 mod atom_text;
 mod check;
+pub mod ending_text;
 mod fetch;
+mod ground;
+mod inputs;
+mod numbers;
+mod options;
+mod pieces;
+mod plan;
 mod put;
 mod readers;
+pub mod refusals;
 mod reply;
 mod run;
 mod stop;
-mod texts;
-mod verdict_text;
+pub mod task_text;
+pub mod texts;
+pub mod verdict_text;
 mod words;
 
 pub use reply::{Reply, Status};

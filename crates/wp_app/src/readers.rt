@@ -3,20 +3,20 @@
 ghost use Rattle.std.specs.Prelude.{◌≡◌, IfOk, IsTrue};
 ghost use Rattle.wp_app.specs.Output.{domain_in, domain_step, items_step, judged_step, lifted_step, plan_step, problem_in, problem_step, refused, verdict_reply, verdict_status};
 ghost use Rattle.wp_app.specs.Statuses.{is_of_files};
-ghost use Rattle.wp_app.specs.Stops.{Meets, is_want_of_memory};
+ghost use Rattle.wp_app.specs.Stops.{Meets};
 ghost use Rattle.wp_check.specs.PlanFile.{AreShort};
 
-use crate::check::Texts;
+use crate::inputs::Texts;
+use crate::refusals::{lex_text, pddl_text, plan_error_text};
 use crate::reply::{Reply, Status};
-use crate::stop::Stop;
-use crate::texts::refusal_line;
-use crate::verdict_text::verdict_line;
+use crate::stop::{Stop, ended};
+use crate::verdict_text::verdict_text;
 use std::alloc::{AllocError, Global};
-use wp_check::{PlanError, Steps, Verdict, read_plan, verdict};
+use wp_check::{Steps, Verdict, read_plan, verdict};
 use wp_edge::Text;
-use wp_lex::{LexError, Tree, read_tree};
+use wp_lex::{Tree, read_tree};
 use wp_lift::{Lifted, lift};
-use wp_syntax::{Domain, Part, PddlError, Problem, read_domain, read_problem};
+use wp_syntax::{Domain, Part, Problem, read_domain, read_problem};
 
 /// The domain of a text, or the refusal of it.
 #[tactic(auto, unfolding(crate::specs::Output::domain_step))]
@@ -33,8 +33,7 @@ fn domain_in(alloc: Global, tree: &Tree) -> Result<Domain, Stop>
 {
     match read_domain(alloc, tree) {
         Ok(domain) => Ok(domain),
-        Err(PddlError::Memory) => Err(Stop::Memory),
-        Err(_) => refuse(alloc, Part::Domain),
+        Err(error) => refuse(pddl_text(alloc, &error)?),
     }
 }
 
@@ -53,8 +52,7 @@ fn problem_in(alloc: Global, tree: &Tree) -> Result<Problem, Stop>
 {
     match read_problem(alloc, tree) {
         Ok(problem) => Ok(problem),
-        Err(PddlError::Memory) => Err(Stop::Memory),
-        Err(_) => refuse(alloc, Part::Problem),
+        Err(error) => refuse(pddl_text(alloc, &error)?),
     }
 }
 
@@ -65,20 +63,8 @@ fn tree_of(alloc: Global, part: Part, text: &Text) -> Result<Tree, Stop>
 {
     match read_tree(alloc, text.as_slice()) {
         Ok(tree) => Ok(tree),
-        Err(error) => {
-            if is_want_of_memory(&error) {
-                Err(Stop::Memory)
-            } else {
-                refuse(alloc, part)
-            }
-        }
+        Err(error) => refuse(lex_text(alloc, part, &error)?),
     }
-}
-
-fn is_want_of_memory(error: &LexError) -> bool
-    ensures { result ≡ is_want_of_memory error.now }
-{
-    matches!(error, LexError::Memory)
 }
 
 /// The steps of a plan file, or the refusal of it.
@@ -89,20 +75,15 @@ pub fn steps_of(alloc: Global, text: &Text) -> Result<Steps, Stop>
 {
     match read_plan(alloc, text.as_slice()) {
         Ok(steps) => Ok(steps),
-        Err(PlanError::Memory) => Err(Stop::Memory),
-        Err(_) => refuse(alloc, Part::Plan),
+        Err(error) => refuse(plan_error_text(alloc, &error)?),
     }
 }
 
-/// The answer to a text that has a fault.
-fn refuse<T>(alloc: Global, part: Part) -> Result<T, Stop>
-    ensures { Meets (refused part) result }
+/// The answer to a text that has a fault, by the line of it.
+fn refuse<T>(line: Text) -> Result<T, Stop>
+    ensures { Meets (refused line) result }
 {
-    let text = refusal_line(alloc, part)?;
-    let status = Status::Refused;
-    Err(Stop::Ends {
-        reply: Reply { text, status },
-    })
+    ended(Status::Refused, line)
 }
 
 /// The answer to a plan whose texts have no fault of their own.
@@ -118,19 +99,12 @@ pub fn judge(alloc: Global, texts: &Texts, steps: &Steps) -> Result<Reply, Stop>
 
 // The lifted problem, or the refusal of the text in which a name means nothing.
 #[tactic(auto, unfolding(crate::specs::Output::lifted_step))]
-fn lifted_of(alloc: Global, texts: &Texts) -> Result<Lifted, Stop>
+pub fn lifted_of(alloc: Global, texts: &Texts) -> Result<Lifted, Stop>
     ensures { Meets (lifted_step texts.now.domain texts.now.problem) result }
 {
     match lift(alloc, &texts.domain, &texts.problem) {
         Ok(lifted) => Ok(lifted),
-        Err(PddlError::Memory) => Err(Stop::Memory),
-        Err(
-            PddlError::Bad {
-                part,
-                kind: _,
-                at: _,
-            },
-        ) => refuse(alloc, part),
+        Err(error) => refuse(pddl_text(alloc, &error)?),
     }
 }
 
@@ -142,7 +116,7 @@ fn reply_on(alloc: Global, lifted: &Lifted, steps: &Steps) -> Result<Reply, Allo
 {
     let verdict = verdict(alloc, lifted, steps)?;
     Ok(Reply {
-        text: verdict_line(alloc, lifted, steps, &verdict)?,
+        text: verdict_text(alloc, lifted, steps, &verdict)?,
         status: status_of(&verdict),
     })
 }

@@ -9,10 +9,12 @@ ghost use Rattle.wp_app.specs.Statuses.{is_defined, is_of_files};
 ghost use Rattle.wp_app.specs.Stops.{Follows, IfUnread};
 
 use crate::check::check;
+use crate::ground::ground_files;
+use crate::plan::plan_files;
 use crate::put::put_all;
 use crate::reply::{Reply, Status};
 use crate::stop::Stop;
-use crate::texts::{read_fault_line, usage_lines};
+use crate::texts::{read_fault_text, usage_text};
 use crate::words::{Command, read_words};
 use std::alloc::{AllocError, Global};
 use std::thread::Threads;
@@ -67,7 +69,7 @@ fn reply_to<S: Shelf>(alloc: Global, words: &[String], shelf: &mut S) -> Result<
     match read_words(alloc, words)? {
         Some(command) => command_reply(alloc, &command, shelf),
         None => Ok(Reply {
-            text: usage_lines(alloc)?,
+            text: usage_text(alloc)?,
             status: Status::Usage,
         }),
     }
@@ -88,7 +90,7 @@ fn command_reply<S: Shelf>(
         Ok(reply) => Ok(reply),
         Err(Stop::Ends { reply }) => Ok(reply),
         Err(Stop::ReadFault { part }) => Ok(Reply {
-            text: read_fault_line(alloc, part)?,
+            text: read_fault_text(alloc, part)?,
             status: Status::ReadFault,
         }),
         Err(Stop::Memory) => Err(AllocError),
@@ -110,5 +112,11 @@ fn run_command<S: Shelf>(alloc: Global, command: &Command, shelf: &mut S) -> Res
             problem,
             plan,
         } => check(alloc, shelf, domain, problem, plan),
+        Command::Ground { domain, problem } => ground_files(alloc, shelf, domain, problem),
+        Command::Plan {
+            domain,
+            problem,
+            settings,
+        } => plan_files(alloc, shelf, domain, problem, settings),
     }
 }

@@ -1,10 +1,14 @@
 //! What ends a run before its last step.
 
-ghost use Rattle.std.specs.Prelude.{◌≡◌};
+ghost use Rattle.std.specs.Prelude.{◌≡◌, IsTrue};
+ghost use Rattle.wp_app.specs.Output.{answered};
+ghost use Rattle.wp_app.specs.Statuses.{is_of_files};
+ghost use Rattle.wp_app.specs.Stops.{Meets};
 ghost use Rattle.wp_app.specs.declared.stop.Stop.TheVariants.{Memory};
 
-use crate::reply::Reply;
+use crate::reply::{Reply, Status};
 use std::alloc::AllocError;
+use wp_edge::Text;
 use wp_syntax::Part;
 
 /// A step of the run does not go on.
@@ -23,4 +27,14 @@ impl From<AllocError> for Stop {
     fn from(_error: AllocError) -> Stop {
         Stop::Memory
     }
+}
+
+/// Ends the run with an answer.
+pub fn ended<T>(status: Status, text: Text) -> Result<T, Stop>
+    requires { IsTrue (is_of_files status) }
+    ensures { Meets (answered status text) result }
+{
+    Err(Stop::Ends {
+        reply: Reply { text, status },
+    })
 }

@@ -1,23 +1,22 @@
 //! The lines of the answers that need no more than a part and a limit.
 
 ghost use Rattle.std.specs.Prelude.{◌≡◌, ◌++◌, IfOk};
-ghost use Rattle.wp_app.specs.Texts.{line, part_text, too_long_text, read_fault_text, refusal_text, usage_text};
+ghost use Rattle.wp_app.specs.Texts.{too_long_text, read_fault_text, usage_text};
 
-use itoa::Buffer;
+use crate::pieces::{part_word, put_number};
 use std::alloc::{AllocError, Global};
 use wp_edge::Text;
 use wp_syntax::Part;
 
 /// The line of a file that is longer than its limit.
 #[tactic(auto, unfolding(crate::specs::Texts::too_long_text))]
-pub fn too_long_line(alloc: Global, part: Part, limit: u64) -> Result<Text, AllocError>
+pub fn too_long_text(alloc: Global, part: Part, limit: u64) -> Result<Text, AllocError>
     ensures { IfOk result (λ text. text ≡ too_long_text part limit) }
 {
-    let mut digits = Buffer::new();
     let mut line = Vec::from_slice(alloc, b"; limit: ")?;
     line.extend_from_slice(part_word(part).as_bytes())?;
     line.extend_from_slice(b" longer than ")?;
-    line.extend_from_slice(digits.format(limit).as_bytes())?;
+    put_number(&mut line, limit)?;
     line.extend_from_slice(b" bytes")?;
     line.push(b'\n')?;
     Ok(Text::of_vec(line))
@@ -25,23 +24,18 @@ pub fn too_long_line(alloc: Global, part: Part, limit: u64) -> Result<Text, Allo
 
 /// The line of a file that could not be read.
 #[tactic(auto, unfolding(crate::specs::Texts::read_fault_text))]
-pub fn read_fault_line(alloc: Global, part: Part) -> Result<Text, AllocError>
+pub fn read_fault_text(alloc: Global, part: Part) -> Result<Text, AllocError>
     ensures { IfOk result (λ text. text ≡ read_fault_text part) }
 {
-    part_line(alloc, b"; read fault: ", part)
-}
-
-/// The line of a text that has a fault.
-#[tactic(auto, unfolding(crate::specs::Texts::refusal_text))]
-pub fn refusal_line(alloc: Global, part: Part) -> Result<Text, AllocError>
-    ensures { IfOk result (λ text. text ≡ refusal_text part) }
-{
-    part_line(alloc, b"; refused: ", part)
+    let mut line = Vec::from_slice(alloc, b"; read fault: ")?;
+    line.extend_from_slice(part_word(part).as_bytes())?;
+    line.push(b'\n')?;
+    Ok(Text::of_vec(line))
 }
 
 /// What words may be given.
 #[tactic(auto, unfolding(crate::specs::Texts::usage_text))]
-pub fn usage_lines(alloc: Global) -> Result<Text, AllocError>
+pub fn usage_text(alloc: Global) -> Result<Text, AllocError>
     ensures { IfOk result (λ text. text ≡ usage_text) }
 {
     Ok(Text::of_vec(Vec::from_slice(alloc, USAGE.as_bytes())?))
@@ -54,23 +48,3 @@ const USAGE: &str = "; usage: plan DOMAIN PROBLEM [options]
 ; options: --search kbfws|f5 --width 1|2 --budget N --words N
 ;          --workers N --ahead N --watch tally,trace,fronts --plain
 ";
-
-/// A line of some words and a part.
-fn part_line(alloc: Global, words: &[u8], part: Part) -> Result<Text, AllocError>
-    ensures { IfOk result (λ text. text ≡ line (words.now ++ part_text part)) }
-{
-    let mut line = Vec::from_slice(alloc, words)?;
-    line.extend_from_slice(part_word(part).as_bytes())?;
-    line.push(b'\n')?;
-    Ok(Text::of_vec(line))
-}
-
-fn part_word(part: Part) -> &'static str
-    ensures { result.now ≡ part_text part }
-{
-    match part {
-        Part::Domain => "domain",
-        Part::Problem => "problem",
-        Part::Plan => "plan",
-    }
-}

@@ -1,12 +1,13 @@
 //! The line that says what a plan is.
 
 ghost use Rattle.std.specs.Prelude.{◌≡◌, ◌++◌, ◌-◌, [], List, ℕ, decimal, map, unwrap_or, IfOk, OnOk, slice_index_or};
-ghost use Rattle.wp_app.specs.Texts.{arg_at, atom_text, cond_at, goal_at, literal_text, no_schema, step_at, verdict_text, why_text};
+ghost use Rattle.wp_app.specs.Texts.{arg_at, cond_at, goal_at, literal_text, no_schema, step_at, verdict_text, why_text};
 ghost use Rattle.wp_check.specs.Verdicts.{instance_of};
+ghost use Rattle.wp_ground.specs.Texts.{atom_text};
 ghost use Rattle.wp_lift.specs.Names.{object_named};
 
 use crate::atom_text::{put_atom, put_literal};
-use itoa::Buffer;
+use crate::pieces::{put_counted, put_number, put_two};
 use std::alloc::{AllocError, Global};
 use wp_check::{Step, Steps, Verdict, Why};
 use wp_edge::{Text, Texts};
@@ -14,7 +15,7 @@ use wp_lift::{Args, GroundAtom, Lifted, Schema, SlotAtom, SlotCond, Slots};
 
 /// The line of a verdict on the steps.
 #[tactic(auto, unfolding(crate::specs::Texts::verdict_text))]
-pub fn verdict_line(
+pub fn verdict_text(
     alloc: Global,
     lifted: &Lifted,
     steps: &Steps,
@@ -41,13 +42,6 @@ pub fn verdict_line(
     }
     out.push(b'\n')?;
     Ok(Text::of_vec(out))
-}
-
-fn put_number(out: &mut Vec<u8>, number: u64) -> Result<(), AllocError>
-    ensures { OnOk result (out.new.items ≡ out.old.items ++ decimal number) }
-{
-    let mut digits = Buffer::new();
-    out.extend_from_slice(digits.format(number).as_bytes())
 }
 
 // Past the end of the steps stands one that never comes.
@@ -96,13 +90,6 @@ fn put_why(
             put_condition(alloc, out, lifted, step, *place)
         }
     }
-}
-
-fn put_two(out: &mut Vec<u8>, first: &[u8], second: &[u8]) -> Result<(), AllocError>
-    ensures { OnOk result (out.new.items ≡ out.old.items ++ (first.now ++ second.now)) }
-{
-    out.extend_from_slice(first)?;
-    out.extend_from_slice(second)
 }
 
 // Some words and the argument at a place; nothing past the end.

@@ -1,2 +1,7 @@
+mod Rows
 pub mod Fronts
 pub mod StepLemmas
+pub mod ValidLemmas
+pub mod PassedSteps
+pub mod PassedPlans
+pub mod NamingSteps

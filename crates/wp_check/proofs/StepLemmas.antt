@@ -1,5 +1,5 @@
 -- The step of a plan whose name, number of arguments and arguments are as they should be.
-use Rattle.std.proofs.Common.{◌≡◌, ℕ, ◌+◌, Bool, true, false, Option, None, Some, unwrap_or, List, length, map, refl, sym, ◌∙◌, ap, eq-eqb}
+use Rattle.std.proofs.Common.{◌≡◌, ℕ, Bool, true, Option, Some, unwrap_or, List, length, sym, ◌∙◌, ap, eq-eqb}
 use Rattle.std.specs.Prelude.{option_map, ◌==◌}
 use Rattle.wp_lift.specs.declared.atoms.GroundAtom.{GroundAtom}
 use Rattle.wp_lift.specs.Problem.{Lifting, Instance, schema_at}

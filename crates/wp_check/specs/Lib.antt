@@ -1,2 +1,5 @@
 pub mod PlanFile
 pub mod Verdicts
+pub mod Laws
+pub mod PlanText
+pub mod Printed

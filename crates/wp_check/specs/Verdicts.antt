@@ -1,6 +1,6 @@
 -- The verdict on the steps of a plan: the first step that is bad, with its first cause; else the first goal atom that does not
 -- hold in the last world; else that the plan is valid. Valid plans are those of PDDL 2.1, level 1.
-use Rattle.std.specs.Prelude.{ℕ, ◌≡◌, ◌+◌, ◌==◌, not, Bool, true, false, unwrap_or, Option, None, Some, option_map, List, [], ◌∷◌, length, map, position}
+use Rattle.std.specs.Prelude.{ℕ, ◌≡◌, ◌+◌, ◌==◌, Bool, true, false, unwrap_or, Option, None, Some, option_map, List, [], ◌∷◌, length, map}
 use Rattle.wp_lift.specs.declared.atoms.GroundAtom.{GroundAtom}
 use Rattle.wp_lift.specs.Problem.{Lifting, Instance, schema_at, fits}
 use Rattle.wp_lift.specs.Worlds.{among, after, first_false, unmet_goal}

@@ -7,10 +7,15 @@
 
 mod cause;
 mod judging;
+mod laws;
 mod reading;
 mod step;
 
 pub use cause::{Verdict, Why};
 pub use judging::verdict;
+pub use laws::{
+    comments_join, plans_of_texts_are_read_back, printed_plans_are_read, valid_plans_are_read_back,
+    valid_plans_give_valid_steps, valid_steps_name_valid_plans,
+};
 pub use reading::read_plan;
 pub use step::{PlanError, Step, Steps};

@@ -7,3 +7,6 @@ pub mod Rise
 pub mod First
 pub mod Runs
 pub mod PlanFaults
+pub mod Pass
+pub mod WordBytes
+pub mod LeafWords

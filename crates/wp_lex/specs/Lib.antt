@@ -6,4 +6,5 @@ pub mod Items
 pub mod Trees
 pub mod Node
 pub mod Lists
+pub mod Leaves
 pub mod Rising

@@ -2,7 +2,8 @@
 -- with A to Z turned into a to z. A comment runs from a semicolon to the next line feed (byte 10) or the end. Comments and
 -- letter case are PDDL's. All this is said of places in the whole text.
 use Rattle.std.specs.Prelude.{ℕ, zero, suc, ◌+◌, ◌==◌, nat_le, Bool, true, false, not, ◌&&◌, ◌||◌, if◌then◌else◌, List, take, take_while, reverse, slice_index, ◌≡◌, ◌<◌, ◌≤◌, drop, length}
-use Rattle.std.specs.List.{list_any}
+use Rattle.std.specs.List.{list_any, list_all}
+use Rattle.std.specs.Char.{is_ascii_uppercase}
 use Rattle.std.specs.Str.{str_to_ascii_lowercase}
 use Rattle.wp_lex.specs.declared.place.Class.{Class}
 use Rattle.wp_lex.specs.declared.place.Class.TheVariants.{Letter, Opens, Closes, Blank, Bad}
@@ -51,6 +52,15 @@ follows_letter text (suc i) = is_letter (class_at text i)
 -- the word that begins with the first of these bytes: a semicolon ends it, so no comment begins within it
 abbrev pub word_of : List ℕ → List ℕ
 word_of rest = str_to_ascii_lowercase (take_while (λ byte. is_letter (class_of byte)) rest)
+
+-- a byte that a word has when it is read: a letter, and none of A to Z
+abbrev pub is_word_byte : ℕ → Bool
+is_word_byte byte = is_letter (class_of byte) && not (is_ascii_uppercase byte)
+
+-- a word as it is read
+pub record IsWord (word : List ℕ) : Type 0 where
+  pub some : 0 < length word
+  pub letters : list_all is_word_byte word ≡ true
 
 -- the n bytes from a place are a longest run of letters of the text
 pub record IsRun (text : List ℕ) (i n : ℕ) : Type 0 where

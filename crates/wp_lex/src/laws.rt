@@ -3,6 +3,7 @@
 ghost use Rattle.wp_lex.specs.Words.{WordsAreRuns};
 ghost use Rattle.wp_lex.specs.Faults.{FaultsAreFirst};
 ghost use Rattle.wp_lex.specs.Lists.{TextsAreLists, PlansAreLists, ListsAreRead};
+ghost use Rattle.wp_lex.specs.Leaves.{LeavesAreWords};
 ghost use Rattle.wp_lex.specs.Rising.{TextsRise, PlansRise};
 
 /// The word from a place where a letter follows none is a longest run of letters outside comments.
@@ -38,4 +39,9 @@ pub fn texts_rise()
 /// The places of the trees of a plan file rise from the left to the right.
 pub fn plans_rise()
     ensures { PlansRise }
+{}
+
+/// Each word of a text's trees is one or more letters, none of them in upper case.
+pub fn leaves_are_words()
+    ensures { LeavesAreWords }
 {}

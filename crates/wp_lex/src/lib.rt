@@ -25,8 +25,8 @@ mod word;
 pub use error::LexError;
 pub use item::{Item, Items};
 pub use laws::{
-    faults_are_first, lists_are_read, plans_are_lists, plans_rise, texts_are_lists, texts_rise,
-    words_are_runs,
+    faults_are_first, leaves_are_words, lists_are_read, plans_are_lists, plans_rise,
+    texts_are_lists, texts_rise, words_are_runs,
 };
 pub use node::{Node, next};
 pub use tree::{Tree, Trees, read_steps, read_tree};

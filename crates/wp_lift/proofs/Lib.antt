@@ -7,3 +7,5 @@ pub mod SchemaLemmas
 pub mod ClosureLemmas
 pub mod LiftLemmas
 pub mod SubtypeLemmas
+pub mod FormedLemmas
+pub mod NamedLemmas

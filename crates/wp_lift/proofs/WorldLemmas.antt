@@ -7,7 +7,7 @@ use Rattle.wp_lift.proofs.PlaceLemmas.{from-zero}
 use Rattle.wp_lift.specs.declared.atoms.GroundAtom.{GroundAtom}
 use Rattle.wp_lift.specs.declared.schemas.SlotEffect.{SlotEffect}
 use Rattle.wp_lift.specs.Worlds.{among, is_same_atom, noted, grounded, holds, first_false, after}
-use Rattle.wp_lift.specs.Effects.{deleted_by, added_by}
+use Rattle.wp_lift.specs.Effects.{deleted_by, atoms_added}
 use Rattle.wp_lift.proofs.SameLemmas.{same-atom, same-atom-sym}
 
 or_false : (b : Bool) → (b || false) ≡ b
@@ -65,33 +65,18 @@ deleted_all args other b (effect ∷ effects) =
       | false ↦ ap (λ s. (b && not s) && not behind) (same-atom-sym atom other) ∙ less b (is_same_atom other atom) behind
     ]
 
-pub added_all : (args : List ℕ) (other : GroundAtom) (b : Bool) (effects : List SlotEffect) → fold (added_by args other) b effects
-    ≡ (b || among (map (λ (effect : SlotEffect). grounded args effect.atom) (filter (λ (effect : SlotEffect). effect.add) effects)) other)
-added_all args other b [] = sym (or_false b)
-added_all args other b (effect ∷ effects) =
-    let others = filter (λ (effect : SlotEffect). effect.add) effects in
-    let behind = among (map (λ (effect : SlotEffect). grounded args effect.atom) others) other in
-    let atom = grounded args effect.atom in
-    added_all args other (added_by args other b effect) effects
-    ∙ elim effect.add as (λ t. (cond t (b || is_same_atom other atom) b || behind)
-    ≡ (b || among (map (λ (effect : SlotEffect). grounded args effect.atom) (cond t (effect ∷ others) others)) other)) [
-      | true ↦ or_or b (is_same_atom other atom) behind
-      | false ↦ refl
-    ]
-
 pub first_false-is : (lifted : Lifting) (step : Instance) (world : GroundAtom → Bool) (args : List ℕ) (conds : List SlotCond) (place : Option ℕ)
     → args ≡ step.args → conds ≡ (schema_at lifted step.schema).conds
     → place ≡ position_from (λ (cond : SlotCond). not (holds args world cond)) 0 conds → place ≡ first_false lifted step world
 first_false-is lifted step world args conds place a c e =
     e ∙ from-zero (λ (cond : SlotCond). not (holds args world cond)) conds ∙ λ i. position (λ (cond : SlotCond). not (holds (a i) world cond)) (c i)
 
-pub after-is : (lifted : Lifting) (step : Instance) (args : List ℕ) (effects : List SlotEffect) (old middle new : GroundAtom → Bool)
+pub after-is : (lifted : Lifting) (step : Instance) (args : List ℕ) (effects : List SlotEffect) (old middle new : List GroundAtom)
     → args ≡ step.args → effects ≡ (schema_at lifted step.schema).effects
-    → ((other : GroundAtom) → middle other ≡ fold (deleted_by args other) (old other) effects)
-    → ((other : GroundAtom) → new other ≡ fold (added_by args other) (middle other) effects) → new ≡ after lifted step old
+    → ((other : GroundAtom) → among middle other ≡ fold (deleted_by args other) (among old other) effects)
+    → new ≡ fold noted middle (atoms_added args effects) → among new ≡ after lifted step (among old)
 after-is lifted step args effects old middle new a e deletes adds =
-    let adds_in = λ (args : List ℕ) (effects : List SlotEffect) (other : GroundAtom). among (map (λ (effect : SlotEffect). grounded args effect.atom) (filter (λ (effect : SlotEffect). effect.add) effects)) other in
     let dels_in = λ (args : List ℕ) (effects : List SlotEffect) (other : GroundAtom). among (map (λ (effect : SlotEffect). grounded args effect.atom) (filter (λ (effect : SlotEffect). not effect.add) effects)) other in
-    λ i other. (adds other ∙ added_all args other (middle other) effects
-    ∙ ap (λ b. b || adds_in args effects other) (deletes other ∙ deleted_all args other (old other) effects)
-    ∙ λ j. (old other && not (dels_in (a j) (e j) other)) || adds_in (a j) (e j) other) i
+    λ i other. (ap (λ (atoms : List GroundAtom). among atoms other) adds ∙ among-noted_all middle (atoms_added args effects) other
+    ∙ ap (λ b. b || among (atoms_added args effects) other) (deletes other ∙ deleted_all args other (among old other) effects)
+    ∙ λ j. (among old other && not (dels_in (a j) (e j) other)) || among (atoms_added (a j) (e j)) other) i

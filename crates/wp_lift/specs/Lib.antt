@@ -6,7 +6,9 @@ pub mod Typing
 pub mod Lifting
 pub mod Numbering
 pub mod Effects
+pub mod Formed
 pub mod Kept
 pub mod Marks
 pub mod Stages
+pub mod Named
 pub mod Laws

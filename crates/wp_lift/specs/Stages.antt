@@ -1,9 +1,10 @@
 -- Parts of the walk of `lift`: the names of both texts, and what the problem states and wants.
-use Rattle.std.specs.Prelude.{List, [], map}
+use Rattle.std.specs.Prelude.{ℕ, Bool, List, [], map}
 use Rattle.wp_syntax.specs.declared.error.Part.TheVariants as parts
 use Rattle.wp_syntax.specs.declared.records.Typed.{Typed}
 use Rattle.wp_syntax.specs.declared.records.Domain.{Domain}
 use Rattle.wp_syntax.specs.declared.records.Problem.{Problem}
+use Rattle.wp_lift.specs.declared.schemas.Schema.{Schema}
 use Rattle.wp_lift.specs.declared.lifting.TypedSchema.{TypedSchema}
 use Rattle.wp_lift.specs.declared.lifting.Scene.{Scene}
 use Rattle.wp_lift.specs.declared.lifting.Facts.{Facts}
@@ -27,14 +28,20 @@ facts_in naming problem = do
 abbrev pub facts_of : Scene → Problem → Walk Facts
 facts_of scene problem = facts_in (record { part = parts.Problem; preds = scene.preds; objects = scene.known.names; params = [] }) problem
 
-abbrev pub assembled : List Typed → Scene → List TypedSchema → Facts → Lifting
-assembled declared scene schemas facts = record {
+-- the parts as one problem
+abbrev pub joined : Scene → List Schema → List (List (List ℕ)) → List (List Bool) → Facts → Lifting
+joined scene schemas wanted subtypes facts = record {
   objects = scene.known.names;
   kinds = scene.known.kinds;
   preds = scene.preds;
-  schemas = map (λ (typed : TypedSchema). typed.schema) schemas;
-  wanted = map (λ (typed : TypedSchema). typed.wanted) schemas;
-  subtypes = subtypes_of scene.types declared;
+  schemas = schemas;
+  wanted = wanted;
+  subtypes = subtypes;
   opening = facts.opening;
   goals = facts.goals;
 }
+
+abbrev pub assembled : List Typed → Scene → List TypedSchema → Facts → Lifting
+assembled declared scene schemas facts =
+    joined scene (map (λ (typed : TypedSchema). typed.schema) schemas) (map (λ (typed : TypedSchema). typed.wanted) schemas)
+    (subtypes_of scene.types declared) facts

@@ -1,13 +1,15 @@
 //! Ground atoms: a predicate's number with the numbers of objects.
 
-ghost use Rattle.std.specs.Prelude.{◌≡◌, ◌++◌, ◌∷◌, [], nat_eq, IfOk};
-ghost use Rattle.std.specs.Cmp.Lexicographic.{pointwise, nat_list_eq_equiv};
+ghost use Rattle.std.specs.Prelude.{◌≡◌, ◌++◌, ◌∷◌, [], Some, nat_eq, refl, IfOk};
+ghost use Rattle.std.specs.Ordering.{nat_cmp};
+ghost use Rattle.std.specs.Cmp.Lexicographic.{pointwise, slice_cmp, nat_list_eq_equiv, nat_list_cmp_total, texts_ties, texts_po};
 ghost use Rattle.std.specs.Cmp.{partial_equiv_from_equiv};
 ghost use Rattle.std.specs.Hash as fed;
 ghost use Rattle.std.specs.Cmp.Rules.{hashing};
 ghost use Rattle.std.proofs.Common.{rules};
 
 use std::alloc::{AllocError, Global};
+use std::cmp::Ordering;
 use std::hash::{Hash, Hasher};
 use std::marker::Model;
 
@@ -69,6 +71,31 @@ impl Eq for Args {
     ghost laws = { nat_list_eq_equiv };
 }
 
+/// By the first item that differs; a list comes before those that go on from it.
+impl PartialOrd for Args {
+    ghost partial_cmp = { λ a b. Some (slice_cmp nat_cmp a b) };
+
+    ghost laws = { texts_po };
+
+    fn partial_cmp(&self, other: &Args) -> Option<Ordering> {
+        Some(self.cmp(other))
+    }
+}
+
+impl Ord for Args {
+    ghost cmp = { slice_cmp nat_cmp };
+
+    ghost total = { nat_list_cmp_total };
+
+    ghost matches_partial_cmp = { λ a b. refl };
+
+    ghost matches_eq = { texts_ties };
+
+    fn cmp(&self, other: &Args) -> Ordering {
+        self.items.as_slice().cmp(other.items.as_slice())
+    }
+}
+
 impl Hash for Args {
     ghost hash_input = { fed.slice fed.u32 };
 
@@ -79,8 +106,8 @@ impl Hash for Args {
     }
 }
 
-/// An atom without variables.
-#[derive(Drop, PartialEq, Eq, Hash)]
+/// An atom without variables. The order is that of the predicates' numbers, then that of the arguments.
+#[derive(Drop, PartialEq, Eq, PartialOrd, Ord, Hash)]
 pub struct GroundAtom {
     /// The number of its predicate.
     pub pred: u32,

@@ -25,10 +25,10 @@ mod typing;
 mod world;
 
 pub use atoms::{Args, GroundAtom, GroundAtoms};
-pub use laws::rows_are_subtypes;
+pub use laws::{liftings_are_named, rows_are_subtypes};
 pub use lifted::Lifted;
 pub use lifting::lift;
-pub use meaning::{grounded, object_in};
+pub use meaning::{add_all, first_false, grounded, object_in};
 pub use schemas::{
     Pred, Preds, Schema, Schemas, Slot, SlotAtom, SlotCond, SlotConds, SlotEffect, SlotEffects,
     Slots,

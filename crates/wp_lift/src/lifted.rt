@@ -3,6 +3,8 @@
 ghost use Rattle.std.specs.Prelude.{◌≡◌, ◌^◌, ◌<◌, length, map, IfOk, OnOk, IfSome};
 ghost use Rattle.wp_lift.specs.Problem.{schema_at, fits, wanted_at};
 ghost use Rattle.wp_lift.specs.Worlds.{among, first_false, after, unmet_goal, noted};
+ghost use Rattle.wp_lift.specs.Formed.{IsFormed};
+ghost use Rattle.wp_lift.specs.Stages.{joined};
 ghost use Rattle.wp_lift.specs.declared.schemas.Schema.{Schema};
 ghost use Rattle.wp_lift.specs.Names.{object_named, schema_named};
 
@@ -35,26 +37,18 @@ pub struct Lifted {
 
 impl Model for Lifted {
     ghost use Rattle.wp_lift.specs.Problem.{Lifting};
-    ghost use Rattle.wp_lift.specs.Kept.{IsKept};
 
     ghost Value = { Lifting };
 
-    ghost view = { λ l. record {
-      objects = l.objects;
-      kinds = l.kinds;
-      preds = l.preds;
-      schemas = l.schemas;
-      wanted = l.wanted.items;
-      subtypes = l.subtypes;
-      opening = l.opening;
-      goals = l.goals;
-    } };
+    ghost use Rattle.wp_lift.specs.Kept.{given_by, IsKept};
 
-    ghost invariant = { λ l. IsKept l.schemas l.schema_names l.goals };
+    ghost view = { given_by };
+
+    ghost invariant = { λ l. IsKept (given_by l) l.schema_names };
 }
 
 impl Lifted {
-    /// The lifted problem of these parts. A list of goals that no place of 32 bits reaches the end of is want of memory.
+    /// The lifted problem of these parts. Predicates, schemas or goals that have no numbers of 32 bits are want of memory.
     pub(crate) fn of_parts(
         scene: Scene,
         schemas: Schemas,
@@ -63,17 +57,9 @@ impl Lifted {
         subtypes: Rows,
         facts: Facts,
     ) -> Result<Lifted, AllocError>
-        requires { schema_names ≡ map (λ (schema : Schema). schema.name) schemas }
-        ensures { IfOk result (λ lifted. lifted ≡ record {
-          objects = scene.known.names;
-          kinds = scene.known.kinds;
-          preds = scene.preds;
-          schemas = schemas;
-          wanted = wanted.items;
-          subtypes = subtypes;
-          opening = facts.opening;
-          goals = facts.goals;
-        }) }
+        requires named { schema_names ≡ map (λ (schema : Schema). schema.name) schemas }
+        requires formed { IsFormed (joined scene schemas wanted.items subtypes facts) }
+        ensures { IfOk result (λ lifted. lifted ≡ joined scene schemas wanted.items subtypes facts) }
     {
         let Scene {
             types: _,
@@ -85,11 +71,14 @@ impl Lifted {
             kinds,
         } = known;
         let Facts { opening, goals } = facts;
-        let _few = narrow(goals.as_slice().len())?;
+        let preds = preds.into_preds();
+        let _preds = narrow(preds.as_slice().len())?;
+        let _schemas = narrow(schemas.as_slice().len())?;
+        let _goals = narrow(goals.as_slice().len())?;
         Ok(Lifted {
             objects,
             kinds,
-            preds: preds.into_preds(),
+            preds,
             schemas,
             schema_names,
             wanted,
@@ -107,14 +96,19 @@ impl Lifted {
         self.objects.names()
     }
 
+    /// The declared predicates.
     pub fn preds(&self) -> &Preds
-        ensures { result.now ≡ self.now.preds }
+        ensures value { result.now ≡ self.now.preds }
+        ensures few { length self.now.preds < 2 ^ 32 }
     {
         &self.preds
     }
 
+    /// The action schemas. What they and the other parts name by number is there.
     pub fn schemas(&self) -> &Schemas
-        ensures { result.now ≡ self.now.schemas }
+        ensures value { result.now ≡ self.now.schemas }
+        ensures few { length self.now.schemas < 2 ^ 32 }
+        ensures formed { IsFormed self.now }
     {
         &self.schemas
     }
@@ -158,7 +152,8 @@ impl Lifted {
         self.schema_at(schema).arity
     }
 
-    fn schema_at(&self, schema: u32) -> &Schema
+    /// The action schema of a number.
+    pub fn schema_at(&self, schema: u32) -> &Schema
         requires { schema < length self.now.schemas }
         ensures { result.now ≡ schema_at self.now schema }
     {

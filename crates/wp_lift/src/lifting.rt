@@ -8,6 +8,7 @@ ghost use Rattle.wp_lift.specs.declared.schemas.Schema.{Schema};
 ghost use Rattle.wp_lift.specs.Walk.{Gives, each, each_after};
 ghost use Rattle.wp_lift.specs.Typing.{kinds_of};
 ghost use Rattle.wp_lift.specs.Lifting.{naming_of, cond_of, effect_of, names_of, schema_of, ground_atom_of, stated_after, lifting_of};
+ghost use Rattle.wp_lift.specs.Formed.{IsFormed};
 ghost use Rattle.wp_lift.specs.Stages.{scene_of, facts_in, facts_of, assembled};
 
 use crate::atoms::{GroundAtom, GroundAtoms};
@@ -314,6 +315,7 @@ fn assembled(
     typed: TypedSchemas,
     facts: Facts,
 ) -> Result<Lifted, AllocError>
+    requires { IsFormed (assembled declared.now scene typed facts) }
     ensures { IfOk result (λ lifted. lifted ≡ assembled declared.now scene typed facts) }
 {
     let subtypes = subtypes_of(alloc, &scene.types, declared)?;

@@ -1,9 +1,9 @@
 //! What an instance says of a world and makes of it, schema and objects in hand.
 
-ghost use Rattle.std.specs.Prelude.{◌≡◌, ◌&&◌, ◌||◌, not, map, slice_index_or, fold, position, IfOk, OnOk};
+ghost use Rattle.std.specs.Prelude.{◌≡◌, ◌&&◌, ◌∷◌, [], not, map, slice_index_or, fold, position, IfOk, OnOk};
 ghost use Rattle.std.specs.List.{position_from};
-ghost use Rattle.wp_lift.specs.Worlds.{among, is_same_atom, object_in, grounded, holds};
-ghost use Rattle.wp_lift.specs.Effects.{deleted_by, added_by};
+ghost use Rattle.wp_lift.specs.Worlds.{among, is_same_atom, noted, object_in, grounded, holds};
+ghost use Rattle.wp_lift.specs.Effects.{deleted_by, atoms_added};
 
 use crate::atoms::{Args, GroundAtom};
 use crate::fault::narrow;
@@ -97,7 +97,7 @@ pub fn delete_all(args: &[u32], effects: &[SlotEffect], world: &mut World) -> Re
 }
 
 fn add(args: &[u32], effect: &SlotEffect, world: &mut World) -> Result<(), AllocError>
-    ensures { OnOk result ((other : _) → among world.new other ≡ added_by args.now other (among world.old other) effect.now) }
+    ensures { OnOk result (world.new ≡ fold noted world.old (atoms_added args.now (effect.now ∷ []))) }
 {
     if effect.add {
         let atom = grounded(world.alloc(), args, &effect.atom)?;
@@ -108,7 +108,7 @@ fn add(args: &[u32], effect: &SlotEffect, world: &mut World) -> Result<(), Alloc
 
 /// Puts the atoms that the effects add into the world.
 pub fn add_all(args: &[u32], effects: &[SlotEffect], world: &mut World) -> Result<(), AllocError>
-    ensures { OnOk result ((other : _) → among world.new other ≡ fold (added_by args.now other) (among world.old other) effects.now) }
+    ensures { OnOk result (world.new ≡ fold noted world.old (atoms_added args.now effects.now)) }
 {
     for effect in effects {
         add(args, effect, world)?;

@@ -46,6 +46,13 @@ impl World {
         Ok(world)
     }
 
+    /// The true atoms, each once. Their order says nothing.
+    pub fn as_slice(&self) -> &[GroundAtom]
+        ensures { result.now ≡ self.now }
+    {
+        self.atoms.as_slice()
+    }
+
     /// What the world's own memory comes from.
     pub fn alloc(&self) -> Global {
         self.alloc

@@ -1,4 +1,4 @@
-//! `check` over a chain of two actions.
+//! `check` over a chain of two actions, and over texts that have each a fault.
 
 ghost use Rattle.std.specs.Prelude.{◌≤◌};
 
@@ -28,22 +28,32 @@ fn file(alloc: Global, name: &str, bytes: &str) -> Result<File, AllocError> {
 }
 
 /// The chain with a plan; the fetches of these numbers fail.
-fn shelf(alloc: Global, plan: &str, fails: &[u64]) -> Result<MemShelf, AllocError> {
+pub(crate) fn shelf(alloc: Global, plan: &str, fails: &[u64]) -> Result<MemShelf, AllocError> {
+    shelf_of(alloc, DOMAIN, PROBLEM, plan, fails)
+}
+
+fn shelf_of(
+    alloc: Global,
+    domain: &str,
+    problem: &str,
+    plan: &str,
+    fails: &[u64],
+) -> Result<MemShelf, AllocError> {
     let mut files = Vec::new(alloc);
-    files.push(file(alloc, "d", DOMAIN)?)?;
-    files.push(file(alloc, "p", PROBLEM)?)?;
+    files.push(file(alloc, "d", domain)?)?;
+    files.push(file(alloc, "p", problem)?)?;
     files.push(file(alloc, "plan", plan)?)?;
     let fails = Numbers::of_vec(Vec::from_slice(alloc, fails)?);
     Ok(MemShelf::new(Files::of_vec(files), fails))
 }
 
-/// An output of 100 bytes that takes `most` a call; the calls of these numbers fail.
-fn sink(alloc: Global, most: u64, fails: &[u64]) -> Result<MemSink, AllocError>
+/// An output of 200 bytes that takes `most` a call; the calls of these numbers fail.
+pub(crate) fn sink(alloc: Global, most: u64, fails: &[u64]) -> Result<MemSink, AllocError>
     requires { 1 ≤ most }
 {
     MemSink::new(
         alloc,
-        100,
+        200,
         most,
         Numbers::of_vec(Vec::from_slice(alloc, fails)?),
     )
@@ -81,12 +91,137 @@ fn each_plan_has_its_line(rt: HostRuntime) -> Result<(), Fail> {
         ("", "; invalid goal (c)\n", 1),
         ("(s1 x)", "; invalid step 1: arguments 1 wanted 0\n", 1),
         ("(go)", "; invalid step 1: unknown action go\n", 1),
-        ("((s1))", "; refused: plan\n", 3),
+        ("((s1))", "; refused: plan: shape at 1\n", 3),
     ] {
         let mut shelf = shelf(alloc, plan, &[])?;
         let mut sink = sink(alloc, 7, &[])?;
         let answered = checked(&rt, alloc, &mut shelf, &mut sink)?;
         assert_eq!(rt; answered.code(), status);
+        assert_eq!(rt; sink.held(), line.as_bytes());
+    }
+    Ok(())
+}
+
+#[test]
+fn each_fault_has_its_line(rt: HostRuntime) -> Result<(), Fail> {
+    let alloc = rt.alloc();
+    for (domain, problem, plan, line) in [
+        (
+            "x (define)",
+            PROBLEM,
+            "",
+            "; refused: domain: unopened at 0\n",
+        ),
+        ("", PROBLEM, "", "; refused: domain: empty\n"),
+        (
+            "(define (domain d)",
+            PROBLEM,
+            "",
+            "; refused: domain: unclosed\n",
+        ),
+        (
+            "(define (domain d)) x",
+            PROBLEM,
+            "",
+            "; refused: domain: trailing at 20\n",
+        ),
+        (
+            "(((((((((((((((((((((((((((((((((((((((((((((((((((((((((((((((((",
+            PROBLEM,
+            "",
+            "; refused: domain: too deep at 64\n",
+        ),
+        (
+            "(define \u{e9})",
+            PROBLEM,
+            "",
+            "; refused: domain: bad byte at 8\n",
+        ),
+        (
+            "(define (domain d e))",
+            PROBLEM,
+            "",
+            "; refused: domain: shape at 18\n",
+        ),
+        (
+            "(define (domain d) (:derived (a) (b)))",
+            PROBLEM,
+            "",
+            "; refused: domain: unsupported :derived at 20\n",
+        ),
+        (
+            "(define (domain d) (:predicates (and)))",
+            PROBLEM,
+            "",
+            "; refused: domain: reserved at 33\n",
+        ),
+        (
+            "(define (domain d) (:predicates (a) (a)))",
+            PROBLEM,
+            "",
+            "; refused: domain: duplicate at 37\n",
+        ),
+        (
+            "(define (domain d) (:predicates (a ?a ?b ?c ?d ?e ?f ?g ?h ?i ?j ?k ?l ?m ?n ?o ?p ?q ?r ?s ?t ?u ?v ?w ?x ?y ?z ?aa ?ba ?ca ?da ?ea ?fa ?ga)))",
+            PROBLEM,
+            "",
+            "; refused: domain: too many at 137 limit 32\n",
+        ),
+        (
+            "(define (domain d) (:predicates (a)) (:action x :parameters (?v - k)))",
+            "(define (problem p) (:init) (:goal (a)))",
+            "",
+            "; refused: domain: unknown type at 66\n",
+        ),
+        (
+            "(define (domain d) (:predicates (q ?x)) (:action m :parameters (?x) :effect (q ?y)))",
+            "(define (problem p) (:init) (:goal ()))",
+            "",
+            "; refused: domain: unknown variable at 79\n",
+        ),
+        (
+            DOMAIN,
+            "(define (problem p) (:init))",
+            "",
+            "; refused: problem: shape at 0\n",
+        ),
+        (
+            DOMAIN,
+            "(define (problem p) (:objects o - k) (:init) (:goal (a)))",
+            "",
+            "; refused: problem: unknown type at 34\n",
+        ),
+        (
+            DOMAIN,
+            "(define (problem p) (:init (d)) (:goal (a)))",
+            "",
+            "; refused: problem: unknown predicate at 28\n",
+        ),
+        (
+            DOMAIN,
+            "(define (problem p) (:init (a o)) (:goal (a)))",
+            "",
+            "; refused: problem: arity at 28\n",
+        ),
+        (
+            "(define (domain d) (:predicates (q ?x)) (:action m :parameters (?x) :effect (q ?x)))",
+            "(define (problem p) (:init) (:goal (q o)))",
+            "",
+            "; refused: problem: unknown object at 38\n",
+        ),
+        (DOMAIN, PROBLEM, "(s1", "; refused: plan: unclosed\n"),
+        (
+            DOMAIN,
+            PROBLEM,
+            "(s1) s2",
+            "; refused: plan: unopened at 5\n",
+        ),
+        (DOMAIN, PROBLEM, "(s1) ()", "; refused: plan: shape at 5\n"),
+    ] {
+        let mut shelf = shelf_of(alloc, domain, problem, plan, &[])?;
+        let mut sink = sink(alloc, 100, &[])?;
+        let answered = checked(&rt, alloc, &mut shelf, &mut sink)?;
+        assert_eq!(rt; answered.code(), 3);
         assert_eq!(rt; sink.held(), line.as_bytes());
     }
     Ok(())

@@ -1,10 +1,9 @@
 -- The first fault of a reading is that of the readings that it begins with.
-use Rattle.std.proofs.Common.{Bool, List, [], ◌∷◌, ◌++◌, refl}
+use Rattle.std.proofs.Common.{List, [], ◌∷◌, ◌++◌, refl}
 use Rattle.wp_syntax.specs.declared.error.ReadError.{ReadError}
 use Rattle.wp_syntax.specs.declared.error.ReadError.TheVariants as read_errors
-use Rattle.wp_syntax.specs.Reading.{Wrong, Fails, error_of}
 use Rattle.wp_syntax.specs.declared.error.Part.{Part}
-use Rattle.wp_syntax.specs.Unbuilt.{IsRefusal}
+use Rattle.wp_syntax.specs.Reading.{Wrong, Fails, error_of, IsRefusal}
 
 pub fails_append : (e : ReadError) (xs ys : List Wrong) → Fails e xs → Fails e (xs ++ ys)
 fails_append read_errors.Memory xs ys h = tt
@@ -12,8 +11,7 @@ fails_append (read_errors.Bad kind at) [] ys h = cc
 fails_append (read_errors.Bad kind at) (x ∷ xs) ys h = h
 
 -- What a reading fails with is its first fault, told of the part.
-pub refusal_of : (part : Part) (e : ReadError) (xs : List Wrong) (unbuilt : Bool) → Fails e xs
-    → IsRefusal part (error_of part e) (xs ++ []) unbuilt
-refusal_of part read_errors.Memory xs unbuilt h = tt
-refusal_of part (read_errors.Bad kind at) [] unbuilt h = cc
-refusal_of part (read_errors.Bad kind at) (x ∷ xs) unbuilt h = (refl, cc)
+pub refusal_of : (part : Part) (e : ReadError) (xs : List Wrong) → Fails e xs → IsRefusal part (xs ++ []) (error_of part e)
+refusal_of part read_errors.Memory xs h = tt
+refusal_of part (read_errors.Bad kind at) [] h = cc
+refusal_of part (read_errors.Bad kind at) (x ∷ xs) h = (refl, h)

@@ -6,3 +6,6 @@ pub mod Order
 pub mod CondOrder
 pub mod DomainOrder
 pub mod ProblemOrder
+pub mod TypedWords
+pub mod DomainWords
+pub mod ProblemWords

@@ -9,5 +9,5 @@ pub mod Actions
 pub mod Outline
 pub mod Domains
 pub mod Problems
-pub mod Unbuilt
 pub mod Walk
+pub mod Laws

@@ -1,6 +1,6 @@
 -- Reading a tree: all faults in the order in which a walk from the left meets them, each list before its items, and a
 -- value. Reading goes on behind a fault, so a definition says nothing of stopping. Where there is a fault the value means nothing.
-use Rattle.std.specs.Prelude.{◌≡◌, ℕ, Bool, true, false, List, [], ◌∷◌, ◌++◌, Option, Some, None, Result, Ok, Err}
+use Rattle.std.specs.Prelude.{◌≡◌, ◌⊎◌, ℕ, Bool, true, false, List, [], ◌∷◌, ◌++◌, Option, Some, None, Result, Ok, Err}
 use Rattle.std.specs.Borrow.{Bor}
 use Rattle.wp_lex.specs.Trees.{Tree, Trees, End, Then, trees_of}
 use Rattle.wp_lex.specs.declared.item.Item.{Item}
@@ -87,3 +87,16 @@ GoesOn reads (Err e) old new trees = Fails e (reads old trees).faults
 abbrev pub error_of : Part → ReadError → PddlError
 error_of part read_errors.Memory = errors.Memory
 error_of part (read_errors.Bad kind at) = errors.Bad part kind at
+
+-- the refusal of a part for a fault
+abbrev pub refusal_at : Part → Wrong → PddlError
+refusal_at part fault = errors.Bad part fault.kind fault.at
+
+-- want of memory, or the first fault, told of the part
+abbrev pub IsRefusal : Part → List Wrong → PddlError → Type 0
+IsRefusal part faults errors.Memory = Unit {0}
+IsRefusal part faults (errors.Bad told kind at) = (told ≡ part) × (first faults ≡ Some (record { kind = kind; at = at }))
+
+-- What is returned is the answer, or want of memory in its place.
+abbrev pub IsAnswer : {A : Type 0} → Result A PddlError → Result A PddlError → Type 0
+IsAnswer result answer = (result ≡ answer) ⊎ (result ≡ Err errors.Memory)

@@ -1,8 +1,9 @@
 //! What holds of the definitions alone.
 
+ghost use Rattle.wp_syntax.specs.Laws.{DomainsAreNamed, ProblemsAreNamed};
 ghost use Rattle.wp_syntax.specs.Walk.{DomainFaultsWalk, ProblemFaultsWalk};
 
-use wp_lex::texts_rise;
+use wp_lex::{leaves_are_words, texts_rise};
 
 /// The faults of a domain stand in the order of their places, and at one place in that of their kinds: the first is the least.
 pub fn domain_faults_walk()
@@ -16,4 +17,18 @@ pub fn problem_faults_walk()
     ensures { ProblemFaultsWalk }
 {
     texts_rise();
+}
+
+/// The names that a domain without a fault declares are words of its text, and no two of its actions have one name.
+pub fn domains_are_named()
+    ensures { DomainsAreNamed }
+{
+    leaves_are_words();
+}
+
+/// The objects that a problem without a fault declares are words of its text.
+pub fn problems_are_named()
+    ensures { ProblemsAreNamed }
+{
+    leaves_are_words();
 }

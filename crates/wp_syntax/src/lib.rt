@@ -22,11 +22,10 @@ mod problem;
 mod read;
 mod records;
 mod typing;
-mod unbuilt;
 mod word;
 
 pub use error::{Part, PddlError, PddlKind};
-pub use laws::{domain_faults_walk, problem_faults_walk};
+pub use laws::{domain_faults_walk, domains_are_named, problem_faults_walk, problems_are_named};
 pub use lists::{ActionTexts, AtomTexts, Conds, Effects, InitItems, Names, PredTexts, TypedList};
 pub use read::{read_domain, read_problem};
 pub use records::{

@@ -1,17 +1,17 @@
 //! The two readers.
 
-ghost use Rattle.std.specs.Prelude.{◌≡◌, false, IfOk, IfErr, OnOk};
+ghost use Rattle.std.specs.Prelude.{◌≡◌, Some, Ok, Err, IfOk, IfErr};
 ghost use Rattle.wp_lex.specs.Trees.{trees_of};
-ghost use Rattle.wp_syntax.specs.Reading.{fine, error_of};
+ghost use Rattle.wp_syntax.specs.declared.records.Domain.{Domain};
+ghost use Rattle.wp_syntax.specs.declared.records.Problem.{Problem};
+ghost use Rattle.wp_syntax.specs.Reading.{Wrong, fine, first, error_of, refusal_at, IsRefusal, IsAnswer};
 ghost use Rattle.wp_syntax.specs.Domains.{domain_of};
 ghost use Rattle.wp_syntax.specs.Problems.{problem_of};
-ghost use Rattle.wp_syntax.specs.Unbuilt.{domain_unbuilt, problem_unbuilt, IsRefusal};
 
 use crate::domain::{domain_from, sectioned};
-use crate::error::{Part, PddlError, PddlKind, ReadError};
+use crate::error::{Part, PddlError, ReadError};
 use crate::problem::{listed, problem_from};
 use crate::records::{Domain, Problem};
-use crate::unbuilt::{are_unbuilt_entries, are_unbuilt_sections, unbuilt};
 use std::alloc::Global;
 use wp_lex::Tree;
 
@@ -24,46 +24,30 @@ fn error_of(part: Part, error: ReadError) -> PddlError
     }
 }
 
-/// The record of a domain, or the first fault of its tree.
-///
-/// Types, constants, parameters, terms and equalities are in the grammar and are not taken yet: a domain that has one of
-/// them, and no fault, is refused as unsupported, with an empty word.
+/// The record of a domain, or the first fault of its tree. It looks up no name: `wp_lift` does.
 pub fn read_domain(alloc: Global, tree: &Tree) -> Result<Domain, PddlError>
     ensures ok { IfOk result (λ domain. domain_of (trees_of tree.now) ≡ fine domain) }
-    ensures built { OnOk result (domain_unbuilt (trees_of tree.now) ≡ false) }
-    ensures refusal { IfErr result (λ e. IsRefusal Part.Domain e
-        (domain_of (trees_of tree.now)).faults (domain_unbuilt (trees_of tree.now))) }
+    ensures refusal { IfErr result (IsRefusal Part.Domain (domain_of (trees_of tree.now)).faults) }
+    ensures accepts { (domain : Domain) → domain_of (trees_of tree.now) ≡ fine domain → IsAnswer result (Ok domain) }
+    ensures refuses { (fault : Wrong) → first (domain_of (trees_of tree.now)).faults ≡ Some fault
+        → IsAnswer result (Err (refusal_at Part.Domain fault)) }
 {
     match sectioned(alloc, tree.items().as_slice()) {
         Err(error) => Err(error_of(Part::Domain, error)),
-        Ok((name, sections)) => {
-            if are_unbuilt_sections(&sections) {
-                Err(unbuilt(alloc, Part::Domain))
-            } else {
-                Ok(domain_from(alloc, name, sections))
-            }
-        }
+        Ok((name, sections)) => Ok(domain_from(alloc, name, sections)),
     }
 }
 
-/// The record of a problem, or the first fault of its tree.
-///
-/// Objects and terms are in the grammar and are not taken yet: a problem that has one of them, and no fault, is refused as
-/// unsupported, with an empty word.
+/// The record of a problem, or the first fault of its tree. It looks up no name: `wp_lift` does.
 pub fn read_problem(alloc: Global, tree: &Tree) -> Result<Problem, PddlError>
     ensures ok { IfOk result (λ problem. problem_of (trees_of tree.now) ≡ fine problem) }
-    ensures built { OnOk result (problem_unbuilt (trees_of tree.now) ≡ false) }
-    ensures refusal { IfErr result (λ e. IsRefusal Part.Problem e
-        (problem_of (trees_of tree.now)).faults (problem_unbuilt (trees_of tree.now))) }
+    ensures refusal { IfErr result (IsRefusal Part.Problem (problem_of (trees_of tree.now)).faults) }
+    ensures accepts { (problem : Problem) → problem_of (trees_of tree.now) ≡ fine problem → IsAnswer result (Ok problem) }
+    ensures refuses { (fault : Wrong) → first (problem_of (trees_of tree.now)).faults ≡ Some fault
+        → IsAnswer result (Err (refusal_at Part.Problem fault)) }
 {
     match listed(alloc, tree.items().as_slice()) {
         Err(error) => Err(error_of(Part::Problem, error)),
-        Ok((name, entries)) => {
-            if are_unbuilt_entries(&entries) {
-                Err(unbuilt(alloc, Part::Problem))
-            } else {
-                Ok(problem_from(alloc, name, entries))
-            }
-        }
+        Ok((name, entries)) => Ok(problem_from(alloc, name, entries)),
     }
 }

@@ -1,6 +1,6 @@
 use Rattle.std.proofs.Common.{◌≡◌, ◌∷◌, ◌++◌, drop, map, List, ℕ}
 use Rattle.std.specs.List.{flat_map}
-use Rattle.wp_app.specs.Texts.{object_text}
+use Rattle.wp_ground.specs.Texts.{object_text}
 use Rattle.wp_app.proofs.atom_text.put_objects.Given as goal
 
 abbrev pub invariant-loop-object : goal.invariant-loop-object

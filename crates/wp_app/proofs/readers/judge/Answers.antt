@@ -1,5 +1,4 @@
 use Rattle.std.proofs.lemmas.Result.{err_from_is_err_and}
-use Rattle.wp_app.specs.Output.{judged_step}
 use Rattle.wp_app.proofs.ReadLemmas.{meets_memory}
 use Rattle.wp_app.proofs.readers.judge.Goals as goal
 

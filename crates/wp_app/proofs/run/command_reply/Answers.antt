@@ -7,7 +7,7 @@ returns-in-Ok-clause-is g c = replied_value _ _ _ _ c.in-Ok.reply c.in-Ok.ensure
 pub returns-in-Err-Ends-clause-is : goal.returns-in-Err-Ends-clause-is
 returns-in-Err-Ends-clause-is g c = replied_end _ _ _ _ c.in-Err-Ends.reply _ c.in-Err-Ends.field-0-is c.in-Err-Ends.ensures.follows
 
-pub returns-in_ok-read_fault_line-in-Err-ReadFault-clause-is :
-    goal.returns-in_ok-read_fault_line-in-Err-ReadFault-clause-is
-returns-in_ok-read_fault_line-in-Err-ReadFault-clause-is g c =
-    replied_unread _ _ _ _ _ _ _ c.in-Err-ReadFault.field-0-is c.in_ok-read_fault_line-in-Err-ReadFault.ensures c.in-Err-ReadFault.ensures.follows c.in-Err-ReadFault.ensures.unread
+pub returns-in_ok-read_fault_text-in-Err-ReadFault-clause-is :
+    goal.returns-in_ok-read_fault_text-in-Err-ReadFault-clause-is
+returns-in_ok-read_fault_text-in-Err-ReadFault-clause-is g c =
+    replied_unread _ _ _ _ _ _ _ c.in-Err-ReadFault.field-0-is c.in_ok-read_fault_text-in-Err-ReadFault.ensures c.in-Err-ReadFault.ensures.follows c.in-Err-ReadFault.ensures.unread

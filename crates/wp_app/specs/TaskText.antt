@@ -1,0 +1,50 @@
+-- The text of a numbered task: how many atoms and actions there are, a line for each atom and for each action, the opening state,
+-- and the goals. Numbers stand in increasing order, each after one space.
+use Rattle.std.specs.Prelude.{ℕ, List, [], ◌∷◌, ◌++◌, length, codes, decimal, slice_index_or}
+use Rattle.std.specs.List.{flat_map, range_with_len}
+use Rattle.wp_task.specs.declared.acts.Act.{Act}
+use Rattle.wp_task.specs.Set.{atoms_in}
+use Rattle.wp_task.specs.Task.{PlanningTask, act_at}
+use Rattle.wp_ground.specs.declared.grounding.Grounded.{Grounded}
+use Rattle.wp_app.specs.Texts.{line}
+
+-- the name of a number; nothing past the end
+abbrev pub name_at : List (List ℕ) → ℕ → List ℕ
+name_at names number = slice_index_or names number []
+
+abbrev pub numbers_text : List ℕ → List ℕ
+numbers_text numbers = flat_map (λ (n : ℕ). 32 ∷ decimal n) numbers
+
+-- a number behind its word
+abbrev pub count_line : List ℕ → ℕ → List ℕ
+count_line word count = line (word ++ decimal count)
+
+unfoldable pub atom_line : List (List ℕ) → ℕ → List ℕ
+atom_line names p = line (codes "atom " ++ decimal p ++ codes " " ++ name_at names p)
+
+unfoldable pub act_line : List (List ℕ) → ℕ → Act → List ℕ
+act_line names a act =
+    line (codes "act " ++ decimal a ++ codes " " ++ name_at names a
+    ++ codes " pre" ++ numbers_text act.pre ++ codes " add" ++ numbers_text act.add ++ codes " del" ++ numbers_text act.del)
+
+-- numbers behind their word
+abbrev pub numbers_line : List ℕ → List ℕ → List ℕ
+numbers_line word numbers = line (word ++ numbers_text numbers)
+
+abbrev pub atom_lines : PlanningTask → List (List ℕ) → List ℕ
+atom_lines task names = flat_map (atom_line names) (range_with_len 0 task.atoms)
+
+abbrev pub act_lines : PlanningTask → List (List ℕ) → List ℕ
+act_lines task names = flat_map (λ (a : ℕ). act_line names a (act_at task.acts a)) (range_with_len 0 (length task.acts))
+
+unfoldable pub task_text : PlanningTask → List (List ℕ) → List (List ℕ) → List ℕ
+task_text task atom_names act_names =
+    count_line (codes "atoms ") task.atoms
+    ++ count_line (codes "acts ") (length task.acts)
+    ++ atom_lines task atom_names
+    ++ act_lines task act_names
+    ++ numbers_line (codes "init") (atoms_in task.init)
+    ++ numbers_line (codes "goal") task.goals
+
+abbrev pub ground_text : Grounded → List ℕ
+ground_text grounded = task_text grounded.task grounded.atom_names grounded.act_names

@@ -1,0 +1,84 @@
+//! The answer to `ground`: the domain and the problem are fetched and read, and the numbered task is printed.
+
+ghost use Rattle.std.specs.Prelude.{◌≡◌, ◌≤◌, IfOk, IsTrue, IsUtf8};
+ghost use Rattle.wp_app.specs.Endings.{is_ground_refusal};
+ghost use Rattle.wp_app.specs.Headline.{IsReached};
+ghost use Rattle.wp_app.specs.Output.{ground_error_status, ground_reply, grounded_step, numbered_step, run_step};
+ghost use Rattle.wp_app.specs.Statuses.{is_of_files};
+ghost use Rattle.wp_app.specs.Stops.{Follows, IfUnread, Meets};
+ghost use Rattle.wp_app.specs.declared.words.Command.TheVariants.{Ground};
+
+use crate::ending_text::ground_error_text;
+use crate::inputs::{Texts, read_texts};
+use crate::readers::lifted_of;
+use crate::reply::{Reply, Status};
+use crate::stop::{Stop, ended};
+use crate::task_text::ground_text;
+use std::alloc::{AllocError, Global};
+use wp_edge::{Shelf, Text};
+use wp_ground::{GroundError, Grounded, ground};
+use wp_lift::Lifted;
+
+/// The task of a domain and a problem, of the files of these names.
+#[tactic(auto, unfolding(crate::specs::Output::run_step))]
+pub fn ground_files<S: Shelf>(
+    alloc: Global,
+    shelf: &mut S,
+    domain: &Text,
+    problem: &Text,
+) -> Result<Reply, Stop>
+    requires domain { IsUtf8 domain.now }
+    requires problem { IsUtf8 problem.now }
+    ensures follows { Follows (S.contents shelf.old) (run_step (Ground domain.now problem.now)) (S.faults shelf.old) (S.faults shelf.new) result }
+    ensures defined { IfOk result (λ reply. IsTrue (is_of_files reply.status)) }
+    ensures unread { IfUnread result (IsReached (S.contents shelf.old) (Ground domain.now problem.now)) }
+    ensures same { S.contents shelf.new ≡ S.contents shelf.old }
+    ensures later { S.faults shelf.old ≤ S.faults shelf.new }
+{
+    let texts = read_texts(alloc, shelf, domain, problem)?;
+    numbered(alloc, &texts)
+}
+
+/// The answer to a domain and a problem that have no fault of their own.
+#[tactic(auto, unfolding(crate::specs::Output::numbered_step))]
+fn numbered(alloc: Global, texts: &Texts) -> Result<Reply, Stop>
+    ensures meets { Meets (numbered_step texts.now) result }
+    ensures defined { IfOk result (λ reply. IsTrue (is_of_files reply.status)) }
+{
+    let lifted = lifted_of(alloc, texts)?;
+    let grounded = grounded_of(alloc, &lifted)?;
+    Ok(reply_with(alloc, &grounded)?)
+}
+
+/// The task of a lifted problem, or why there is none.
+#[tactic(auto, unfolding(crate::specs::Output::grounded_step))]
+pub fn grounded_of(alloc: Global, lifted: &Lifted) -> Result<Grounded, Stop>
+    ensures { Meets (grounded_step lifted.now) result }
+{
+    match ground(alloc, lifted) {
+        Ok(grounded) => Ok(grounded),
+        Err(error) => ended(status_of(&error), ground_error_text(alloc, &error)?),
+    }
+}
+
+fn status_of(error: &GroundError) -> Status
+    ensures value { result ≡ ground_error_status error.now }
+    ensures defined { IsTrue (is_ground_refusal error.now) → IsTrue (is_of_files result) }
+{
+    match error {
+        GroundError::TooManyActs | GroundError::TooManyAtoms => Status::Limit,
+        GroundError::GoalOutOfReach { goal: _, atom: _ } => Status::OutOfReach,
+        GroundError::Memory => Status::Memory,
+    }
+}
+
+#[tactic(auto, unfolding(crate::specs::Output::ground_reply))]
+fn reply_with(alloc: Global, grounded: &Grounded) -> Result<Reply, AllocError>
+    ensures reply { IfOk result (λ reply. reply ≡ ground_reply grounded.now) }
+    ensures defined { IfOk result (λ reply. IsTrue (is_of_files reply.status)) }
+{
+    Ok(Reply {
+        text: ground_text(alloc, grounded)?,
+        status: Status::Done,
+    })
+}

@@ -1,0 +1,9 @@
+pub mod Reached
+pub mod Tasks
+pub mod Texts
+pub mod Refusals
+pub mod Sweeps
+pub mod Walk
+pub mod Numbering
+pub mod Acts
+pub mod Laws

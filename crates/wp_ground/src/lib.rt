@@ -1,0 +1,19 @@
+//! Grounding: the task of a lifted problem, over the atoms that are reached when nothing is deleted.
+//!
+//! Callers see the reached atoms (`specs/Reached.antt`), the task over them with the names of its atoms and actions
+//! (`specs/Tasks.antt`, `specs/Texts.antt`), and the causes of a refusal (`specs/Refusals.antt`).
+#![tactic(auto)]
+
+mod acts;
+mod grounding;
+mod laws;
+mod numbering;
+mod reaching;
+mod texts;
+mod tuples;
+
+pub use grounding::{GroundError, Grounded, ground};
+pub use laws::{
+    plans_are_valid, reached_atoms_are_least, unreached_goals_have_no_plan,
+    valid_plans_are_numbered,
+};
