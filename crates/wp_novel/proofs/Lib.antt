@@ -1,0 +1,7 @@
+pub mod MarkLemmas
+pub mod TupleLemmas
+pub mod FirstLemmas
+pub mod SizeLemmas
+pub mod TableLemmas
+pub mod NewTuples
+mod Rows

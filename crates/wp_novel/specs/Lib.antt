@@ -1,0 +1,3 @@
+pub mod NoveltyTables
+pub mod StandsFor
+pub mod Marks
