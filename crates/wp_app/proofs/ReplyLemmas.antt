@@ -31,7 +31,7 @@ unfolding steps_of command_step
 steps_begun words files = refl
 
 -- the steps of words are those of their command
-steps_named : (words : List (List ℕ)) (command : Command) (files : Contents) → command_of words ≡ Some command → steps_of words files ≡ run_step command files
+pub steps_named : (words : List (List ℕ)) (command : Command) (files : Contents) → command_of words ≡ Some command → steps_of words files ≡ run_step command files
 steps_named words command files e = steps_begun words files ∙ ap (λ (found : Option Command). begun found >>= λ (one : Command). run_step one files) e
 
 steps_unnamed : (words : List (List ℕ)) (files : Contents) → command_of words ≡ None → steps_of words files ≡ answered statuses.Usage usage_text

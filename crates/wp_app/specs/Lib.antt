@@ -12,3 +12,4 @@ pub mod Statuses
 pub mod Stops
 pub mod Puts
 pub mod Headline
+pub mod Laws

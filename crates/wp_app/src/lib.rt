@@ -13,6 +13,7 @@ pub mod ending_text;
 mod fetch;
 mod ground;
 mod inputs;
+mod laws;
 mod numbers;
 mod options;
 mod pieces;
@@ -28,5 +29,9 @@ pub mod texts;
 pub mod verdict_text;
 mod words;
 
+pub use laws::{
+    answers_of_no_plan_are_true, done_answers_are_valid_plans, emptied_searches_have_no_plan,
+    found_plans_are_read_back, goals_out_of_reach_have_no_plan, searches_are_bounded,
+};
 pub use reply::{Reply, Status};
 pub use run::run_words;

@@ -1,0 +1,55 @@
+//! Laws of the answers to `plan`: what the printed text and the statuses say of the files.
+
+ghost use Rattle.wp_app.specs.Laws.{AnswersOfNoPlanAreTrue, DoneAnswersAreValidPlans, EmptiedSearchesHaveNoPlan, FoundPlansAreReadBack, GoalsOutOfReachHaveNoPlan, SearchesAreBounded};
+
+use wp_check::plans_of_texts_are_read_back;
+use wp_ground::{plans_are_valid, unreached_goals_have_no_plan, valid_plans_are_numbered};
+use wp_plain::{emptied_has_no_plan, expansions_are_few, found_is_plan};
+
+/// Where a plan is found, the printed text, its last line with the counts included, is read back as the steps of that plan,
+/// and these steps are valid for the files that were read.
+pub fn found_plans_are_read_back()
+    ensures { FoundPlansAreReadBack }
+{
+    found_is_plan();
+    plans_are_valid();
+    plans_of_texts_are_read_back();
+}
+
+/// Where the answer is that a goal is out of reach, no plan is valid.
+pub fn goals_out_of_reach_have_no_plan()
+    ensures { GoalsOutOfReachHaveNoPlan }
+{
+    unreached_goals_have_no_plan();
+}
+
+/// Where BFWS(f5) is left with no node that waits, and so the answer is that there is no plan, none is valid.
+pub fn emptied_searches_have_no_plan()
+    ensures { EmptiedSearchesHaveNoPlan }
+{
+    emptied_has_no_plan();
+    plans_are_valid();
+    valid_plans_are_numbered();
+}
+
+/// The expansions that k-BFWS counts are at most one more than its pairs of counters times the tuples of the task's atoms.
+pub fn searches_are_bounded()
+    ensures { SearchesAreBounded }
+{
+    expansions_are_few();
+}
+
+/// Where `plan` answers that it is done, the printed text is read back as the steps of a valid plan for the files that were read.
+pub fn done_answers_are_valid_plans()
+    ensures { DoneAnswersAreValidPlans }
+{
+    found_plans_are_read_back();
+}
+
+/// Where `plan` answers that there is no plan, or that a goal is out of reach, no plan is valid for the files that were read.
+pub fn answers_of_no_plan_are_true()
+    ensures { AnswersOfNoPlanAreTrue }
+{
+    goals_out_of_reach_have_no_plan();
+    emptied_searches_have_no_plan();
+}
