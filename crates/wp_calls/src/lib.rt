@@ -1,4 +1,5 @@
-//! Small cases of the calls under the search: tasks, successors, costs, relaxed plans and counters. A crate of tests.
+//! Small cases of the calls under the search: tasks, successors, costs, relaxed plans, counters and events. A crate of
+//! tests.
 //!
 //! Each call that takes memory is made once, so that a body which always answers want of memory is refused. The answers are
 //! stated here by hand, never taken from the program.
@@ -6,5 +7,7 @@
 
 #[cfg(test)]
 mod counters;
+#[cfg(test)]
+mod events;
 #[cfg(test)]
 mod tasks;
