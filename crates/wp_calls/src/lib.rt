@@ -1,5 +1,5 @@
-//! Small cases of the calls under the search: tasks, successors, costs, relaxed plans, counters and events. A crate of
-//! tests.
+//! Small cases of the calls under the search: tasks, successors, costs, relaxed plans, counters, events and novelty
+//! tables. A crate of tests.
 //!
 //! Each call that takes memory is made once, so that a body which always answers want of memory is refused. The answers are
 //! stated here by hand, never taken from the program.
@@ -9,5 +9,7 @@
 mod counters;
 #[cfg(test)]
 mod events;
+#[cfg(test)]
+mod tables;
 #[cfg(test)]
 mod tasks;
