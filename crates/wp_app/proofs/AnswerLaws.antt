@@ -1,6 +1,7 @@
 -- The laws of the answers to `plan`, from those of the readers, of the task and of the search.
-use Rattle.std.proofs.Common.{◌≡◌, ℕ, ◌+◌, ◌*◌, ◌<◌, ◌≤◌, true, false, List, [], ◌∷◌, ◌++◌, length, map, Some, refl, sym, ap, ◌∙◌, subst, ⊎_elim}
-use Rattle.std.specs.List.{AllByRecursion, list_all}
+use Rattle.std.proofs.Common.{◌≡◌, ℕ, ◌+◌, ◌*◌, ◌<◌, ◌≤◌, Bool, true, false, List, [], ◌∷◌, ◌++◌, length, map, Some, refl, sym, ap, ◌∙◌, subst, ◌⊎◌, inl, inr, ⊎_elim, append_assoc}
+use Rattle.std.specs.Prelude.{Option}
+use Rattle.std.specs.List.{AllByRecursion, flat_map, list_all}
 use Rattle.std.proofs.lemmas.Bool.{cases_Bool, both_ways, ltb-false}
 use Rattle.std.proofs.lemmas.List.{length-map, get_or-map}
 use Rattle.std.proofs.lemmas.List.Elements.{recursion_from_All}
@@ -12,6 +13,7 @@ use Rattle.wp_lift.proofs.FormedLemmas.{made-formed}
 use Rattle.wp_task.specs.Task.{IsTask, is_plan}
 use Rattle.wp_check.specs.PlanFile.{plan_of}
 use Rattle.wp_check.specs.PlanText.{line, steps_text}
+use Rattle.wp_check.proofs.PassedPlans.{comments_join}
 use Rattle.wp_check.specs.Printed.{PlansOfTextsAreReadBack, IsReadBack, naming_steps}
 use Rattle.wp_ground.specs.declared.grounding.Grounded.{Grounded}
 use Rattle.wp_ground.specs.Laws.{PlansAreValid, ValidPlansAreNumbered, UnreachedGoalsHaveNoPlan}
@@ -20,58 +22,79 @@ use Rattle.wp_ground.specs.Refusals.{grounded_of}
 use Rattle.wp_ground.specs.Tasks.{task_of, steps_of, atoms_of, instance_at, act_of}
 use Rattle.wp_ground.specs.Texts.{step_text}
 use Rattle.wp_ground.proofs.ActLemmas.{task-fits}
+use Rattle.wp_plain.specs.declared.settings.Search.{Search}
+use Rattle.wp_plain.specs.declared.settings.Search.TheVariants.{KBfws, F5}
 use Rattle.wp_plain.specs.declared.settings.Settings.{Settings}
 use Rattle.wp_plain.specs.declared.ending.Ending.{Ending}
 use Rattle.wp_plain.specs.declared.ending.How.{How}
-use Rattle.wp_plain.specs.declared.ending.How.TheVariants.{Found}
-use Rattle.wp_plain.specs.Laws.{FoundIsPlan, EmptiedHasNoPlan, ExpansionsAreFew}
+use Rattle.wp_plain.specs.declared.ending.How.TheVariants.{Found, Emptied, Budget, Words}
+use Rattle.wp_plain.specs.Laws.{FoundIsPlan, EmptiedHasNoPlan, ExpansionsAreFew, BudgetIsEnough, LimitsAreEnough}
 use Rattle.wp_plain.specs.Pairs.{tuple_count}
-use Rattle.wp_plain.specs.Run.{ending_of}
+use Rattle.wp_plain.specs.Run.{run, ending_of}
+use Rattle.wp_report.specs.Tasks.{name_at}
+use Rattle.wp_report.specs.Endings.{ending_line, ending_text, found_steps, found_text, plan_text}
 use Rattle.wp_app.specs.declared.reply.Reply.{Reply}
 use Rattle.wp_app.specs.declared.reply.Status.TheVariants as statuses
 use Rattle.wp_app.specs.declared.inputs.Texts.{Texts}
-use Rattle.wp_app.specs.declared.words.Command.TheVariants.{Plan}
+use Rattle.wp_watch.specs.declared.watch.WatchKind.{WatchKind}
+use Rattle.wp_watch.specs.Places.{texts_after}
+use Rattle.wp_words.specs.declared.commands.Command.TheVariants.{Plan}
+use Rattle.wp_app.specs.Requests.{Asked, Request, kept_of}
 use Rattle.wp_app.specs.Steps.{Step, goes, reply_of, ◌>>=◌}
-use Rattle.wp_app.specs.TaskText.{name_at}
-use Rattle.wp_app.specs.Endings.{ending_text, found_text, plan_text, text_of_counts}
-use Rattle.wp_app.specs.Output.{answer_of, run_step, texts_step, lifted_step, planned_step, grounded_step, searched_reply, ending_reply, ending_status}
-use Rattle.wp_app.specs.Laws.{IsLifted, IsSearched, FoundPlansAreReadBack, GoalsOutOfReachHaveNoPlan, EmptiedSearchesHaveNoPlan, SearchesAreBounded}
-use Rattle.wp_app.proofs.ReplyLemmas.{steps_named}
+use Rattle.wp_app.specs.Output.{answer_of, run_step, files_planned_step, texts_step, lifted_step, planned_step, grounded_step, searched_reply, with_texts, ending_reply, ending_status}
+use Rattle.wp_app.specs.Laws.{IsLifted, IsSearched, FoundPlansAreReadBack, GoalsOutOfReachHaveNoPlan, EmptiedSearchesHaveNoPlan, SearchesAreBounded, LargeBudgetsAreNotSpent, LargeLimitsAreNotReached}
+use Rattle.wp_app.proofs.ReplyLemmas.{steps_commanded}
 use Rattle.wp_app.proofs.ChainLemmas.{texts_read, lifted_finely, task_goes, admitted, out_of_reach}
-use Rattle.wp_app.proofs.CommentLemmas.{found_is_comment}
+use Rattle.wp_app.proofs.CommentLemmas.{found_is_comment, texts_are_comments}
 
 -- ---- the reply
-planned : (settings : Settings) (texts : Texts) (lifted : Lifting) (grounded : Grounded) → lifted_step texts.domain texts.problem ≡ goes lifted
-    → grounded_step lifted ≡ goes grounded → planned_step settings texts ≡ goes (searched_reply settings grounded)
+planned : (settings : Settings) (watchers : List (WatchKind × Option ℕ)) (texts : Texts) (lifted : Lifting) (grounded : Grounded) → lifted_step texts.domain texts.problem ≡ goes lifted
+    → grounded_step lifted ≡ goes grounded → planned_step settings watchers texts ≡ goes (searched_reply settings watchers grounded)
 unfolding planned_step
-planned settings texts lifted grounded lifts grounds =
-    ap (λ (step : Step Lifting). step >>= λ (one : Lifting). grounded_step one >>= λ (task : Grounded). goes (searched_reply settings task)) lifts
-    ∙ ap (λ (step : Step Grounded). step >>= λ (task : Grounded). goes (searched_reply settings task)) grounds
+planned settings watchers texts lifted grounded lifts grounds =
+    ap (λ (step : Step Lifting). step >>= λ (one : Lifting). grounded_step one >>= λ (task : Grounded). goes (searched_reply settings watchers task)) lifts
+    ∙ ap (λ (step : Step Grounded). step >>= λ (task : Grounded). goes (searched_reply settings watchers task)) grounds
 
-run : (domain problem : List ℕ) (settings : Settings) (files : Contents) (texts : Texts) → texts_step domain problem files ≡ goes texts
-    → run_step (Plan domain problem settings) files ≡ planned_step settings texts
-unfolding run_step
-run domain problem settings files texts read = ap (λ (step : Step Texts). step >>= λ (one : Texts). planned_step settings one) read
+run_plan : (domain problem : List ℕ) (settings : Settings) (watch : List WatchKind) (plain : Bool) (watchers : List (WatchKind × Option ℕ)) (files : Contents) (texts : Texts)
+    → texts_step domain problem files ≡ goes texts
+    → run_step (let request : Request = record { command = Plan domain problem settings watch plain; watchers = watchers } in request) files ≡ planned_step settings watchers texts
+unfolding run_step files_planned_step
+run_plan domain problem settings watch plain watchers files texts read = ap (λ (step : Step Texts). step >>= λ (one : Texts). planned_step settings watchers one) read
 
-searched : (settings : Settings) (grounded : Grounded) (ending : Ending) → ending_of grounded.task settings ≡ ending
-    → searched_reply settings grounded ≡ ending_reply settings grounded ending
+-- what the watchers say of the search of a task
+abbrev said : Settings → List (WatchKind × Option ℕ) → Grounded → List (List ℕ)
+said settings watchers grounded = texts_after watchers (run grounded.task settings).1.events
+
+searched : (settings : Settings) (watchers : List (WatchKind × Option ℕ)) (grounded : Grounded) (ending : Ending) → ending_of grounded.task settings ≡ ending
+    → searched_reply settings watchers grounded ≡ with_texts (ending_reply settings grounded ending) (said settings watchers grounded)
 unfolding searched_reply
-searched settings grounded ending ends = ap (ending_reply settings grounded) ends
+searched settings watchers grounded ending ends = ap (λ (one : Ending). with_texts (ending_reply settings grounded one) (said settings watchers grounded)) ends
 
-answered : (words : List (List ℕ)) (files : Contents) (settings : Settings) (lifted : Lifting) (ending : Ending)
-    (is : IsSearched words files settings lifted ending) → answer_of words files ≡ Some (ending_reply settings is.grounded ending)
-answered words files settings lifted ending is =
+-- the watchers that are kept for the search
+abbrev watchers_of : (asked : Asked) (files : Contents) (settings : Settings) (lifted : Lifting) → IsLifted asked files settings lifted → List (WatchKind × Option ℕ)
+watchers_of asked files settings lifted of = kept_of (Plan of.domain of.problem settings of.watch of.plain) asked.watchers
+
+-- the answer of a search that ended so
+abbrev answer_with : (asked : Asked) (files : Contents) (settings : Settings) (lifted : Lifting) (ending : Ending) → IsSearched asked files settings lifted ending → Reply
+answer_with asked files settings lifted ending is =
+    with_texts (ending_reply settings is.grounded ending) (said settings (watchers_of asked files settings lifted is.lifts) is.grounded)
+
+answered : (asked : Asked) (files : Contents) (settings : Settings) (lifted : Lifting) (ending : Ending)
+    (is : IsSearched asked files settings lifted ending) → answer_of asked files ≡ Some (answer_with asked files settings lifted ending is)
+answered asked files settings lifted ending is =
     let of = is.lifts in
+    let watchers = watchers_of asked files settings lifted of in
     ap reply_of
-    (steps_named words (Plan of.domain of.problem settings) files of.command
-    ∙ run of.domain of.problem settings files of.texts of.read
-    ∙ planned settings of.texts lifted is.grounded of.lifts is.grounds
-    ∙ ap (λ (reply : Reply). goes reply) (searched settings is.grounded ending is.ends))
+    (steps_commanded asked (Plan of.domain of.problem settings of.watch of.plain) files of.command
+    ∙ run_plan of.domain of.problem settings of.watch of.plain watchers files of.texts of.read
+    ∙ planned settings watchers of.texts lifted is.grounded of.lifts is.grounds
+    ∙ ap (λ (reply : Reply). goes reply) (searched settings watchers is.grounded ending is.ends))
 
-found_status : (settings : Settings) (grounded : Grounded) (ending : Ending) (plan : List ℕ) → ending.how ≡ Found plan
-    → (ending_reply settings grounded ending).status ≡ statuses.Done
+-- the status of an ending
+status_by : (settings : Settings) (grounded : Grounded) (ending : Ending) (how : How) → ending.how ≡ how
+    → (ending_reply settings grounded ending).status ≡ ending_status settings.search how
 unfolding ending_reply
-found_status settings grounded ending plan found = ap (ending_status settings.search) found
+status_by settings grounded ending how is = ap (ending_status settings.search) is
 
 -- ---- the text
 name_is : (lifted : Lifting) (a : ℕ) → a < length (task_of lifted).acts
@@ -90,23 +113,24 @@ plan_is lifted (a ∷ plan) (here, later) = λ j. line (name_is lifted a here j)
 found_reply : (settings : Settings) (lifted : Lifting) (grounded : Grounded) (ending : Ending) (plan : List ℕ) → ending.how ≡ Found plan
     → grounded_of lifted ≡ grounded → AllByRecursion (λ (a : ℕ). a < length (task_of lifted).acts) plan
     → (ending_reply settings grounded ending).text
-    ≡ steps_text (naming_steps lifted (map (instance_at lifted) plan)) ++ found_text (length plan) (text_of_counts ending.counts)
-unfolding ending_reply ending_text
+    ≡ steps_text (naming_steps lifted (map (instance_at lifted) plan)) ++ found_text (length plan) ending.counts
+unfolding ending_reply ending_text ending_line
 found_reply settings lifted grounded ending plan found same all =
-    let counts = text_of_counts ending.counts in
-    ap (λ (how : How). ending_text settings grounded how counts) found
-    ∙ ap (λ (one : Grounded). plan_text one.act_names plan ++ found_text (length plan) counts) (sym same)
-    ∙ ap (λ (text : List ℕ). text ++ found_text (length plan) counts) (plan_is lifted plan all)
+    let tuples = tuple_count settings.width grounded.task.atoms in
+    let last = found_text (length plan) ending.counts in
+    ap (λ (how : How). found_steps grounded.act_names how ++ ending_line settings.search tuples how ending.counts) found
+    ∙ ap (λ (one : Grounded). plan_text one.act_names plan ++ last) (sym same)
+    ∙ ap (λ (text : List ℕ). text ++ last) (plan_is lifted plan all)
 
 -- ---- the laws
-is_formed : (words : List (List ℕ)) (files : Contents) (settings : Settings) (lifted : Lifting) → IsLifted words files settings lifted → IsFormed lifted
-is_formed words files settings lifted of =
+is_formed : (asked : Asked) (files : Contents) (settings : Settings) (lifted : Lifting) → IsLifted asked files settings lifted → IsFormed lifted
+is_formed asked files settings lifted of =
     made-formed of.texts.domain of.texts.problem lifted (lifted_finely of.texts.domain of.texts.problem lifted of.lifts)
 
 pub found_read_back : FoundIsPlan → PlansAreValid → PlansOfTextsAreReadBack → FoundPlansAreReadBack
-found_read_back found_is_plan plans_are_valid read_back words files settings lifted ending plan is found =
+found_read_back found_is_plan plans_are_valid read_back asked files settings lifted ending plan is found =
     let of = is.lifts in
-    let formed = is_formed words files settings lifted of in
+    let formed = is_formed asked files settings lifted of in
     let task = task_goes lifted is.grounded is.grounds in
     let planned : is_plan is.grounded.task plan ≡ true =
     found_is_plan is.grounded.task settings plan (ap (λ (end : Ending). end.how) is.ends ∙ found) in
@@ -114,23 +138,29 @@ found_read_back found_is_plan plans_are_valid read_back words files settings lif
     subst (λ (one : Grounded). is_plan one.task plan ≡ true) (sym task.1) planned in
     let valid = (plans_are_valid lifted formed (admitted lifted task.0).all_reached plan).0 here in
     let texts = texts_read of.domain of.problem files of.texts of.read in
-    let comments = found_text (length plan) (text_of_counts ending.counts) in
+    let says = said settings (watchers_of asked files settings lifted of) is.grounded in
+    let more = flat_map (λ (text : List ℕ). text) says in
+    let line_of = found_text (length plan) ending.counts in
+    let comments = line_of ++ more in
     let back : IsReadBack lifted (map (instance_at lifted) plan) comments =
     read_back texts.domain_text texts.problem_text of.texts.domain of.texts.problem lifted (map (instance_at lifted) plan) comments
     texts.is_domain texts.is_problem (lifted_finely of.texts.domain of.texts.problem lifted of.lifts) valid.1
-    (found_is_comment (length plan) ending.counts) in
+    (comments_join line_of more (found_is_comment (length plan) ending.counts)
+    (texts_are_comments (watchers_of asked files settings lifted of) (run is.grounded.task settings).1.events)) in
     let text =
-    found_reply settings lifted is.grounded ending plan found task.1
-    (recursion_from_All (λ (a : ℕ). a < length (task_of lifted).acts) plan valid.0) in (
-      ending_reply settings is.grounded ending,
-      answered words files settings lifted ending is,
-      found_status settings is.grounded ending plan found,
+    ap (λ (front : List ℕ). front ++ more)
+    (found_reply settings lifted is.grounded ending plan found task.1
+    (recursion_from_All (λ (a : ℕ). a < length (task_of lifted).acts) plan valid.0))
+    ∙ append_assoc (steps_text (naming_steps lifted (map (instance_at lifted) plan))) line_of more in (
+      answer_with asked files settings lifted ending is,
+      answered asked files settings lifted ending is,
+      status_by settings is.grounded ending (Found plan) found,
       record { read = ap plan_of text ∙ back.read; valid = back.valid },
     )
 
 pub unreached_no_plan : UnreachedGoalsHaveNoPlan → GoalsOutOfReachHaveNoPlan
-unreached_no_plan none words files settings lifted goal atom of refused =
-    none lifted (is_formed words files settings lifted of) (out_of_reach lifted goal atom refused)
+unreached_no_plan none asked files settings lifted goal atom of refused =
+    none lifted (is_formed asked files settings lifted of) (out_of_reach lifted goal atom refused)
 
 -- a valid plan would be one of the task
 valid_in_task : PlansAreValid → ValidPlansAreNumbered → (lifted : Lifting) → IsFormed lifted → list_all (among (reached lifted)) lifted.goals ≡ true
@@ -142,8 +172,8 @@ valid_in_task plans_are_valid numbered lifted formed goals none plan valid =
     both_ways (is_plan (task_of lifted) of.0) (none of.0) there
 
 pub emptied_no_plan : EmptiedHasNoPlan → PlansAreValid → ValidPlansAreNumbered → EmptiedSearchesHaveNoPlan
-emptied_no_plan emptied plans_are_valid numbered words files settings lifted ending is search how plan =
-    let formed = is_formed words files settings lifted is.lifts in
+emptied_no_plan emptied plans_are_valid numbered asked files settings lifted ending is search how plan =
+    let formed = is_formed asked files settings lifted is.lifts in
     let task = task_goes lifted is.grounded is.grounds in
     let goals = (admitted lifted task.0).all_reached in
     let none : (plan : List ℕ) → is_plan (task_of lifted) plan ≡ false =
@@ -154,15 +184,61 @@ emptied_no_plan emptied plans_are_valid numbered words files settings lifted end
     (λ (not_valid : is_valid lifted plan ≡ false). not_valid)
     (cases_Bool (is_valid lifted plan))
 
-pub bounded : ExpansionsAreFew → SearchesAreBounded
-bounded few words files settings lifted ending is search =
+-- the search that ended so is that of the problem's task, which is within the limits
+record IsOfTask (settings : Settings) (lifted : Lifting) (ending : Ending) : Type 0 where
+  fits : IsTask (task_of lifted)
+  ends : ending_of (task_of lifted) settings ≡ ending
+
+of_task : (asked : Asked) (files : Contents) (settings : Settings) (lifted : Lifting) (ending : Ending)
+    → IsSearched asked files settings lifted ending → IsOfTask settings lifted ending
+of_task asked files settings lifted ending is =
     let task = task_goes lifted is.grounded is.grounds in
     let is_admitted = admitted lifted task.0 in
-    let is_reached = among (reached lifted) in
-    let ends : ending_of (task_of lifted) settings ≡ ending = ap (λ (one : Grounded). ending_of one.task settings) task.1 ∙ is.ends in
-    let fits : IsTask (task_of lifted) =
-    task-fits lifted (atoms_of lifted is_reached) (steps_of lifted is_reached)
-    (ltb-false 65536 (length (atoms_of lifted is_reached)) is_admitted.few_atoms)
-    (ltb-false 1048576 (length (steps_of lifted is_reached)) is_admitted.few_acts) in
-    subst (λ (end : Ending). end.counts.expanded ≤ 1 + end.counts.pairs * tuple_count settings.width (task_of lifted).atoms) ends
-    (few (task_of lifted) settings fits search)
+    let is_reached = among (reached lifted) in record {
+      fits =
+          task-fits lifted (atoms_of lifted is_reached) (steps_of lifted is_reached)
+          (ltb-false 65536 (length (atoms_of lifted is_reached)) is_admitted.few_atoms)
+          (ltb-false 1048576 (length (steps_of lifted is_reached)) is_admitted.few_acts);
+      ends = ap (λ (one : Grounded). ending_of one.task settings) task.1 ∙ is.ends;
+    }
+
+pub bounded : ExpansionsAreFew → SearchesAreBounded
+bounded few asked files settings lifted ending is search =
+    let of = of_task asked files settings lifted ending is in
+    subst (λ (end : Ending). end.counts.expanded ≤ 1 + end.counts.pairs * tuple_count settings.width (task_of lifted).atoms) of.ends
+    (few (task_of lifted) settings of.fits search)
+
+-- that the budget is spent is the answer of that ending alone
+spent_ending : (search : Search) (how : How) → ending_status search how ≡ statuses.Budget → how ≡ Budget
+spent_ending search (Found plan) e = cc
+spent_ending F5 Emptied e = cc
+spent_ending KBfws Emptied e = cc
+spent_ending search Budget e = refl
+spent_ending search (Words pairs) e = cc
+
+pub not_spent : BudgetIsEnough → LargeBudgetsAreNotSpent
+not_spent enough asked files settings lifted ending is search large =
+    let of = of_task asked files settings lifted ending is in
+    let above =
+    subst (λ (end : Ending). 1 + end.counts.pairs * tuple_count settings.width (task_of lifted).atoms ≤ settings.budget) (sym of.ends) large in
+    let goes_on : ending.how ≡ Budget → ⊥ =
+    (λ (spent : ending.how ≡ Budget). enough (task_of lifted) settings of.fits search above (ap (λ (end : Ending). end.how) of.ends ∙ spent)) in (
+      answer_with asked files settings lifted ending is,
+      answered asked files settings lifted ending is,
+      λ e. goes_on (spent_ending settings.search ending.how (sym (status_by settings is.grounded ending ending.how refl) ∙ e)),
+    )
+
+pub not_reached : LimitsAreEnough → LargeLimitsAreNotReached
+not_reached enough asked files settings lifted ending states is search all few large =
+    let of = of_task asked files settings lifted ending is in
+    let task = task_of lifted in
+    let how : (ending_of task settings).how ≡ ending.how = ap (λ (end : Ending). end.how) of.ends in
+    let reply = answer_with asked files settings lifted ending is in
+    let status : (reply.status ≡ statuses.Done) ⊎ (reply.status ≡ statuses.NoPlan) =
+    ⊎_elim
+    (λ (found : (plan : List ℕ) × ((ending_of task settings).how ≡ Found plan)).
+    inl (status_by settings is.grounded ending (Found found.0) (sym how ∙ found.1)))
+    (λ (emptied : (ending_of task settings).how ≡ Emptied).
+    inr (status_by settings is.grounded ending Emptied (sym how ∙ emptied) ∙ ap (λ (one : Search). ending_status one Emptied) search))
+    (enough task settings states of.fits search all few large) in
+    (reply, answered asked files settings lifted ending is, status)

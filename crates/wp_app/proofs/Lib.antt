@@ -1,16 +1,14 @@
 pub mod FetchLemmas
 pub mod PutLemmas
-pub mod LineLemmas
 pub mod ReplyLemmas
 pub mod HeadlineLemmas
 pub mod StepLemmas
 mod Rows
-mod TextRows
+mod SearchRows
 mod NumberedRows
 pub mod ReadLemmas
 pub mod GroundLemmas
-pub mod NumberLemmas
-pub mod OptionLemmas
+pub mod PlanLemmas
 pub mod ChainLemmas
 pub mod CommentLemmas
 pub mod AnswerLaws

@@ -4,12 +4,11 @@ use Rattle.std.specs.Fmt.{digits}
 use Rattle.wp_app.specs.declared.reply.Reply.{Reply}
 use Rattle.wp_app.specs.declared.reply.Status.TheVariants.{Done, Refused, OutOfReach}
 use Rattle.wp_app.specs.Steps.{Step, ends, goes, ◌>>=◌}
-use Rattle.wp_app.specs.Refusals.{lexical_text, kind_text, limit_text, fault_text, refusal_text}
-use Rattle.wp_app.specs.TaskText.{task_text, atom_line, act_line}
-use Rattle.wp_app.specs.Endings.{ground_error_text}
 use Rattle.wp_app.specs.Output.{domain_step, problem_step, items_step, domain_in, problem_in, lifted_step, grounded_step, numbered_step, ground_reply}
 use Rattle.wp_lift.specs.Lifting.{lifting_of, schema_of, cond_of, effect_of, atom_of, slot_of, objects_of, object_of, ground_atom_of, stated_after}
 use Rattle.wp_lift.specs.Typing.{types_of, subtypes_of}
+use Rattle.wp_report.specs.Refusals.{lexical_text, kind_text, limit_text, fault_text, refusal_text}
+use Rattle.wp_report.specs.Tasks.{ground_text, atom_line, act_line, ground_error_text}
 
 unfoldable numbered : List ℕ → List ℕ → Step Reply
 numbered domain problem = do
@@ -62,5 +61,5 @@ tasks = (
     ∷ []
 
 tasks_answered : map (λ (row : Row). numbered row.0 row.1) tasks ≡ map (λ (row : Row). row.2) tasks
-unfolding numbered domain_step problem_step items_step domain_in problem_in lifted_step grounded_step numbered_step ground_reply lifting_of schema_of cond_of effect_of atom_of slot_of objects_of object_of ground_atom_of stated_after types_of subtypes_of task_text atom_line act_line ground_error_text refusal_text fault_text kind_text limit_text lexical_text digits
+unfolding numbered domain_step problem_step items_step domain_in problem_in lifted_step grounded_step numbered_step ground_reply lifting_of schema_of cond_of effect_of atom_of slot_of objects_of object_of ground_atom_of stated_after types_of subtypes_of ground_text atom_line act_line ground_error_text refusal_text fault_text kind_text limit_text lexical_text digits
 tasks_answered = refl

@@ -1,6 +1,6 @@
 -- What the code of reading a text meets.
-use Rattle.std.proofs.Common.{◌≡◌, ℕ, List, [], ◌∷◌, sym, ap, ◌∙◌, subst, Ok, Err}
-use Rattle.std.specs.Prelude.{Option, None, Some, Result, IsTrue}
+use Rattle.std.proofs.Common.{◌≡◌, ◌≢◌, ℕ, List, [], ◌∷◌, refl, sym, ap, ◌∙◌, subst, Ok, Err}
+use Rattle.std.specs.Prelude.{Option, None, Some, Result}
 use Rattle.wp_lex.specs.declared.item.Item.{Item}
 use Rattle.wp_lex.specs.declared.error.LexError.{LexError}
 use Rattle.wp_lex.specs.declared.error.LexError.TheVariants as lexical
@@ -15,9 +15,9 @@ use Rattle.wp_check.specs.declared.step.Step.{Step as PlanStep}
 use Rattle.wp_check.specs.declared.step.PlanError.{PlanError}
 use Rattle.wp_check.specs.declared.step.PlanError.TheVariants as plans
 use Rattle.wp_check.specs.PlanFile as plan_files
+use Rattle.wp_report.specs.Refusals.{lex_text, pddl_text, plan_error_text}
 use Rattle.wp_app.specs.Steps.{Step, goes}
 use Rattle.wp_app.specs.Stops.{Meets}
-use Rattle.wp_app.specs.Refusals.{lex_text, pddl_text, plan_error_text, is_lexical_fault, is_pddl_fault, is_plan_fault}
 use Rattle.wp_app.specs.Output.{items_by, record_by, steps_by, lifted_by, refused}
 use Rattle.wp_app.specs.declared.stop.Stop.{Stop}
 use Rattle.wp_app.specs.declared.stop.Stop.TheVariants as stops
@@ -36,16 +36,16 @@ meets_refused {A} step text line result ends same meets =
     subst (λ (s : Step A). Meets s result) (sym (ends ∙ ap refused (sym same))) meets
 
 -- an error other than want of memory is the fault
-explained : (error : LexError) (fault : Option LexError) → Explains error fault → IsTrue (is_lexical_fault error) → fault ≡ Some error
+explained : (error : LexError) (fault : Option LexError) → Explains error fault → error ≢ lexical.Memory → fault ≡ Some error
 explained (lexical.BadByte at) fault h is = h
 explained (lexical.Unopened at) fault h is = h
 explained lexical.Unclosed fault h is = h
 explained (lexical.Trailing at) fault h is = h
 explained (lexical.TooDeep at) fault h is = h
 explained lexical.Empty fault h is = h
-explained lexical.Memory fault h is = cc
+explained lexical.Memory fault h is = absurd (is refl)
 
-pub refused_items : (part : Part) (error : LexError) (fault : Option LexError) (items : List Item) → Explains error fault → IsTrue (is_lexical_fault error) → items_by part fault items ≡ refused (lex_text part error)
+pub refused_items : (part : Part) (error : LexError) (fault : Option LexError) (items : List Item) → Explains error fault → error ≢ lexical.Memory → items_by part fault items ≡ refused (lex_text part error)
 refused_items part error fault items h is = ap (λ (f : Option LexError). items_by part f items) (explained error fault h is)
 
 -- the first fault of a list is the one that is told
@@ -54,8 +54,8 @@ refused_first part told fault wrong faults value same e =
     let p : fault ≡ wrong = cc in
     λ i. refused (pddl_text (refusal_at (sym same i) (p i)))
 
-pub refused_record : {A : Type 0} (part : Part) (error : PddlError) (faults : List Wrong) (value : A) → IsRefusal part faults error → IsTrue (is_pddl_fault error) → record_by part faults value ≡ refused (pddl_text error)
-refused_record part errors.Memory faults value h is = cc
+pub refused_record : {A : Type 0} (part : Part) (error : PddlError) (faults : List Wrong) (value : A) → IsRefusal part faults error → error ≢ errors.Memory → record_by part faults value ≡ refused (pddl_text error)
+refused_record part errors.Memory faults value h is = absurd (is refl)
 refused_record part (errors.Bad told kind at) [] value h is = let no = h.1 in cc
 refused_record part (errors.Bad told kind at) (fault ∷ faults) value h is = refused_first part told fault (record { kind = kind; at = at }) faults value h.0 h.1
 
@@ -64,13 +64,13 @@ refused_fault fault wrong faults value e =
     let p : fault ≡ wrong = cc in
     ap (λ (f : walks.Fault). lifted_by (f ∷ faults) value) p
 
-pub refused_lifting : (error : PddlError) (faults : List walks.Fault) (value : Lifting) → walks.Fails error faults → IsTrue (is_pddl_fault error) → lifted_by faults value ≡ refused (pddl_text error)
-refused_lifting errors.Memory faults value h is = cc
+pub refused_lifting : (error : PddlError) (faults : List walks.Fault) (value : Lifting) → walks.Fails error faults → error ≢ errors.Memory → lifted_by faults value ≡ refused (pddl_text error)
+refused_lifting errors.Memory faults value h is = absurd (is refl)
 refused_lifting (errors.Bad part kind at) [] value h is = cc
 refused_lifting (errors.Bad part kind at) (fault ∷ faults) value h is = refused_fault fault (record { part = part; kind = kind; at = at }) faults value h
 
 -- an error other than want of memory is what reading a plan file gives
-pub refused_steps : (error : PlanError) (plan : Result (List PlanStep) PlanError) → plan_files.Fails error plan → IsTrue (is_plan_fault error) → steps_by plan ≡ refused (plan_error_text error)
+pub refused_steps : (error : PlanError) (plan : Result (List PlanStep) PlanError) → plan_files.Fails error plan → error ≢ plans.Memory → steps_by plan ≡ refused (plan_error_text error)
 refused_steps (plans.Lex fault) plan h is = ap steps_by h
 refused_steps (plans.Shape at) plan h is = ap steps_by h
-refused_steps plans.Memory plan h is = cc
+refused_steps plans.Memory plan h is = absurd (is refl)

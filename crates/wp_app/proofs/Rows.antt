@@ -5,13 +5,13 @@ use Rattle.wp_app.specs.declared.reply.Reply.{Reply}
 use Rattle.wp_app.specs.declared.reply.Status.{Status}
 use Rattle.wp_app.specs.declared.reply.Status.TheVariants.{Done, InvalidPlan, Refused}
 use Rattle.wp_app.specs.Steps.{Step, ends, goes, ◌>>=◌}
-use Rattle.wp_app.specs.Texts.{verdict_text, why_text}
-use Rattle.wp_app.specs.Refusals.{lexical_text, kind_text, limit_text, fault_text, refusal_text}
 use Rattle.wp_app.specs.Output.{domain_step, problem_step, items_step, domain_in, problem_in, plan_step, lifted_step, verdict_reply}
 use Rattle.wp_lift.specs.Lifting.{lifting_of, schema_of, cond_of, effect_of, atom_of, slot_of, objects_of, object_of, ground_atom_of, stated_after}
 use Rattle.wp_lift.specs.Typing.{types_of, subtypes_of}
 use Rattle.wp_check.specs.PlanFile.{plan_of}
 use Rattle.wp_check.specs.Verdicts.{verdict_of}
+use Rattle.wp_report.specs.Refusals.{lexical_text, kind_text, limit_text, fault_text, refusal_text}
+use Rattle.wp_report.specs.Verdicts.{verdict_text, why_text}
 
 unfoldable checked : List ℕ → List ℕ → List ℕ → Step Reply
 checked domain problem plan = do

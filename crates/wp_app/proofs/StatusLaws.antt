@@ -30,17 +30,19 @@ use Rattle.wp_plain.specs.declared.ending.Ending.{Ending}
 use Rattle.wp_plain.specs.declared.ending.How.{How}
 use Rattle.wp_plain.specs.declared.ending.How.TheVariants.{Found, Emptied, Budget, Words}
 use Rattle.wp_plain.specs.Run.{ending_of}
+use Rattle.wp_report.specs.Inputs.{too_long_text}
+use Rattle.wp_report.specs.Tasks.{ground_error_text}
 use Rattle.wp_app.specs.declared.reply.Reply.{Reply}
 use Rattle.wp_app.specs.declared.reply.Status.{Status}
 use Rattle.wp_app.specs.declared.reply.Status.TheVariants as statuses
 use Rattle.wp_app.specs.declared.inputs.Texts.{Texts}
-use Rattle.wp_app.specs.declared.words.Command.TheVariants.{Plan}
+use Rattle.wp_watch.specs.declared.watch.WatchKind.{WatchKind}
+use Rattle.wp_words.specs.declared.commands.Command.TheVariants.{Plan}
+use Rattle.wp_app.specs.Requests.{Asked, kept_of}
 use Rattle.wp_app.specs.Steps.{Step, missing, ends, goes, reply_of, ◌>>=◌}
-use Rattle.wp_app.specs.Texts.{too_long_text}
-use Rattle.wp_app.specs.Endings.{ground_error_text}
-use Rattle.wp_app.specs.Output.{limit_of, answer_of, answered, within, part_of, items_by, items_step, record_by, domain_in, problem_in, domain_step, problem_step, texts_step, lifted_by, lifted_step, task_by, grounded_step, planned_step, run_step, searched_reply, ending_reply, ending_status}
+use Rattle.wp_app.specs.Output.{limit_of, answer_of, answered, within, part_of, items_by, items_step, record_by, domain_in, problem_in, domain_step, problem_step, texts_step, lifted_by, lifted_step, task_by, grounded_step, files_planned_step, planned_step, run_step, searched_reply, ending_reply, ending_status}
 use Rattle.wp_app.specs.Laws.{IsLifted, IsSearched, IsPlanned, IsReadAs, HasNoPlan, FoundPlansAreReadBack, GoalsOutOfReachHaveNoPlan, EmptiedSearchesHaveNoPlan, DoneAnswersAreValidPlans, AnswersOfNoPlanAreTrue}
-use Rattle.wp_app.proofs.ReplyLemmas.{steps_named}
+use Rattle.wp_app.proofs.ReplyLemmas.{steps_commanded}
 use Rattle.wp_app.proofs.ChainLemmas.{both, from_problem}
 
 -- where the step ends, it is not with this status
@@ -139,23 +141,27 @@ unfolding lifted_step
 lifted_later status later domain problem = let walk = lifting_of domain problem in names_later status later walk.faults walk.value
 
 -- the answer of a lifted problem
-record Answers (words : List (List ℕ)) (files : Contents) (settings : Settings) (reply : Reply) : Type 0 where
+record Answers (asked : Asked) (files : Contents) (settings : Settings) (reply : Reply) : Type 0 where
   lifted : Lifting
-  lifts : IsLifted words files settings lifted
-  replies : reply_of (grounded_step lifted >>= λ (grounded : Grounded). goes (searched_reply settings grounded)) ≡ Some reply
+  lifts : IsLifted asked files settings lifted
+  watchers : List (WatchKind × Option ℕ)
+  replies : reply_of (grounded_step lifted >>= λ (grounded : Grounded). goes (searched_reply settings watchers grounded)) ≡ Some reply
 
-answers : (words : List (List ℕ)) (files : Contents) (settings : Settings) (reply : Reply) (status : Status) → IsLater status
-    → IsPlanned words files settings reply → reply.status ≡ status → Answers words files settings reply
-unfolding run_step planned_step
-answers words files settings reply status later is same =
-    let run = sym (ap reply_of (steps_named words (Plan is.domain is.problem settings) files is.command)) ∙ is.answer in
-    let first = after status (texts_step is.domain is.problem files) (planned_step settings) reply (texts_later status later is.domain is.problem files) run same in
+answers : (asked : Asked) (files : Contents) (settings : Settings) (reply : Reply) (status : Status) → IsLater status
+    → IsPlanned asked files settings reply → reply.status ≡ status → Answers asked files settings reply
+unfolding run_step files_planned_step planned_step
+answers asked files settings reply status later is same =
+    let command = Plan is.domain is.problem settings is.watch is.plain in
+    let watchers = kept_of command asked.watchers in
+    let run = sym (ap reply_of (steps_commanded asked command files is.command)) ∙ is.answer in
+    let first = after status (texts_step is.domain is.problem files) (planned_step settings watchers) reply (texts_later status later is.domain is.problem files) run same in
     let second =
     after status (lifted_step first.0.domain first.0.problem)
-    (λ (lifted : Lifting). grounded_step lifted >>= λ (grounded : Grounded). goes (searched_reply settings grounded)) reply
+    (λ (lifted : Lifting). grounded_step lifted >>= λ (grounded : Grounded). goes (searched_reply settings watchers grounded)) reply
     (lifted_later status later first.0.domain first.0.problem) first.2 same in record {
       lifted = second.0;
-      lifts = record { domain = is.domain; problem = is.problem; texts = first.0; command = is.command; read = first.1; lifts = second.1 };
+      lifts = record { domain = is.domain; problem = is.problem; watch = is.watch; plain = is.plain; texts = first.0; command = is.command; read = first.1; lifts = second.1 };
+      watchers = watchers;
       replies = second.2;
     }
 
@@ -169,23 +175,23 @@ refused_later status later reach memory (Some (GoalOutOfReach goal atom)) made =
 refused_later status later reach memory (Some Memory) made = memory
 
 -- the answer of a search
-record Searched (words : List (List ℕ)) (files : Contents) (settings : Settings) (reply : Reply) : Type 0 where
+record Searched (asked : Asked) (files : Contents) (settings : Settings) (reply : Reply) : Type 0 where
   lifted : Lifting
   ending : Ending
-  is_searched : IsSearched words files settings lifted ending
+  is_searched : IsSearched asked files settings lifted ending
   how_status : ending_status settings.search ending.how ≡ reply.status
 
-searched : (words : List (List ℕ)) (files : Contents) (settings : Settings) (reply : Reply) (status : Status) → IsLater status
+searched : (asked : Asked) (files : Contents) (settings : Settings) (reply : Reply) (status : Status) → IsLater status
     → (statuses.OutOfReach ≡ status → ⊥) → (statuses.Memory ≡ status → ⊥)
-    → IsPlanned words files settings reply → reply.status ≡ status → Searched words files settings reply
+    → IsPlanned asked files settings reply → reply.status ≡ status → Searched asked files settings reply
 unfolding grounded_step searched_reply ending_reply
-searched words files settings reply status later reach memory is same =
-    let of = answers words files settings reply status later is same in
+searched asked files settings reply status later reach memory is same =
+    let of = answers asked files settings reply status later is same in
     let last =
     after status (task_by (refusal_of of.lifted) (grounded_of of.lifted))
-    (λ (grounded : Grounded). goes (searched_reply settings grounded)) reply
+    (λ (grounded : Grounded). goes (searched_reply settings of.watchers grounded)) reply
     (refused_later status later reach memory (refusal_of of.lifted) (grounded_of of.lifted)) of.replies same in
-    let answer : searched_reply settings last.0 ≡ reply = cc in record {
+    let answer : searched_reply settings of.watchers last.0 ≡ reply = cc in record {
       lifted = of.lifted;
       ending = ending_of last.0.task settings;
       is_searched = record { lifts = of.lifts; grounded = last.0; grounds = last.1; ends = refl };
@@ -218,63 +224,63 @@ no_ending search (Words pairs) e = cc
 status_of : (ended reply : Reply) → reply_of (ends ended) ≡ Some reply → ended.status ≡ reply.status
 status_of ended reply e = let same : ended ≡ reply = cc in ap (λ (one : Reply). one.status) same
 
-not_reached : (refusal : Option GroundError) (made : Grounded) (settings : Settings) (reply : Reply) → reply.status ≡ statuses.OutOfReach
-    → reply_of (task_by refusal made >>= λ (grounded : Grounded). goes (searched_reply settings grounded)) ≡ Some reply
+not_reached : (refusal : Option GroundError) (made : Grounded) (settings : Settings) (watchers : List (WatchKind × Option ℕ)) (reply : Reply) → reply.status ≡ statuses.OutOfReach
+    → reply_of (task_by refusal made >>= λ (grounded : Grounded). goes (searched_reply settings watchers grounded)) ≡ Some reply
     → (goal : ℕ) × (atom : List ℕ) × (refusal ≡ Some (GoalOutOfReach goal atom))
 unfolding searched_reply ending_reply
-not_reached None made settings reply is e =
-    absurd (no_ending settings.search (ending_of made.task settings).how (status_of (searched_reply settings made) reply e ∙ is))
-not_reached (Some TooManyActs) made settings reply is e =
+not_reached None made settings watchers reply is e =
+    absurd (no_ending settings.search (ending_of made.task settings).how (status_of (searched_reply settings watchers made) reply e ∙ is))
+not_reached (Some TooManyActs) made settings watchers reply is e =
     let same : statuses.Limit ≡ statuses.OutOfReach = status_of (record { text = ground_error_text TooManyActs; status = statuses.Limit }) reply e ∙ is in cc
-not_reached (Some TooManyAtoms) made settings reply is e =
+not_reached (Some TooManyAtoms) made settings watchers reply is e =
     let same : statuses.Limit ≡ statuses.OutOfReach = status_of (record { text = ground_error_text TooManyAtoms; status = statuses.Limit }) reply e ∙ is in cc
-not_reached (Some (GoalOutOfReach goal atom)) made settings reply is e = (goal, atom, refl)
-not_reached (Some Memory) made settings reply is e =
+not_reached (Some (GoalOutOfReach goal atom)) made settings watchers reply is e = (goal, atom, refl)
+not_reached (Some Memory) made settings watchers reply is e =
     let same : statuses.Memory ≡ statuses.OutOfReach = status_of (record { text = ground_error_text Memory; status = statuses.Memory }) reply e ∙ is in cc
 
 -- ---- the laws
-one_answer : (words : List (List ℕ)) (files : Contents) (one other : Reply) → answer_of words files ≡ Some one
-    → answer_of words files ≡ Some other → one ≡ other
-one_answer words files one other e f = let both_are : Some one ≡ Some other = sym e ∙ f in cc
+one_answer : (asked : Asked) (files : Contents) (one other : Reply) → answer_of asked files ≡ Some one
+    → answer_of asked files ≡ Some other → one ≡ other
+one_answer asked files one other e f = let both_are : Some one ≡ Some other = sym e ∙ f in cc
 
-done_there : FoundPlansAreReadBack → (words : List (List ℕ)) (files : Contents) (settings : Settings) (reply : Reply)
-    → answer_of words files ≡ Some reply → (of : Searched words files settings reply) → reply.status ≡ statuses.Done
+done_there : FoundPlansAreReadBack → (asked : Asked) (files : Contents) (settings : Settings) (reply : Reply)
+    → answer_of asked files ≡ Some reply → (of : Searched asked files settings reply) → reply.status ≡ statuses.Done
     → (plan : List Instance) × IsReadAs of.lifted plan reply.text
-done_there found words files settings reply answer of done =
+done_there found asked files settings reply answer of done =
     let has = done_found settings.search of.ending.how (of.how_status ∙ done) in
-    let back = found words files settings of.lifted of.ending has.0 of.is_searched has.1 in
+    let back = found asked files settings of.lifted of.ending has.0 of.is_searched has.1 in
     let plan = map (instance_at of.lifted) has.0 in
-    (plan, subst (λ (one : Reply). IsReadAs of.lifted plan one.text) (one_answer words files back.0 reply back.1 answer) back.3)
+    (plan, subst (λ (one : Reply). IsReadAs of.lifted plan one.text) (one_answer asked files back.0 reply back.1 answer) back.3)
 
 pub done_answers : FoundPlansAreReadBack → DoneAnswersAreValidPlans
-done_answers found words files settings reply is done =
+done_answers found asked files settings reply is done =
     let later : IsLater statuses.Done = record { no_limit = λ e. cc; no_fault = λ e. cc } in
-    let of = searched words files settings reply statuses.Done later (λ e. cc) (λ e. cc) is done in
-    let there = done_there found words files settings reply is.answer of done in
+    let of = searched asked files settings reply statuses.Done later (λ e. cc) (λ e. cc) is done in
+    let there = done_there found asked files settings reply is.answer of done in
     (of.lifted, of.is_searched.lifts, there.0, there.1)
 
-emptied_there : EmptiedSearchesHaveNoPlan → (words : List (List ℕ)) (files : Contents) (settings : Settings) (reply : Reply)
-    → Searched words files settings reply → reply.status ≡ statuses.NoPlan → HasNoPlan words files settings
-emptied_there emptied words files settings reply of none =
+emptied_there : EmptiedSearchesHaveNoPlan → (asked : Asked) (files : Contents) (settings : Settings) (reply : Reply)
+    → Searched asked files settings reply → reply.status ≡ statuses.NoPlan → HasNoPlan asked files settings
+emptied_there emptied asked files settings reply of none =
     let has = no_plan_emptied settings.search of.ending.how (of.how_status ∙ none) in
-    (of.lifted, of.is_searched.lifts, emptied words files settings of.lifted of.ending of.is_searched has.0 has.1)
+    (of.lifted, of.is_searched.lifts, emptied asked files settings of.lifted of.ending of.is_searched has.0 has.1)
 
-no_plan_there : EmptiedSearchesHaveNoPlan → (words : List (List ℕ)) (files : Contents) (settings : Settings) (reply : Reply)
-    → IsPlanned words files settings reply → reply.status ≡ statuses.NoPlan → HasNoPlan words files settings
-no_plan_there emptied words files settings reply is none =
+no_plan_there : EmptiedSearchesHaveNoPlan → (asked : Asked) (files : Contents) (settings : Settings) (reply : Reply)
+    → IsPlanned asked files settings reply → reply.status ≡ statuses.NoPlan → HasNoPlan asked files settings
+no_plan_there emptied asked files settings reply is none =
     let later : IsLater statuses.NoPlan = record { no_limit = λ e. cc; no_fault = λ e. cc } in
-    let of = searched words files settings reply statuses.NoPlan later (λ e. cc) (λ e. cc) is none in
-    emptied_there emptied words files settings reply of none
+    let of = searched asked files settings reply statuses.NoPlan later (λ e. cc) (λ e. cc) is none in
+    emptied_there emptied asked files settings reply of none
 
-out_of_reach_there : GoalsOutOfReachHaveNoPlan → (words : List (List ℕ)) (files : Contents) (settings : Settings) (reply : Reply)
-    → IsPlanned words files settings reply → reply.status ≡ statuses.OutOfReach → HasNoPlan words files settings
+out_of_reach_there : GoalsOutOfReachHaveNoPlan → (asked : Asked) (files : Contents) (settings : Settings) (reply : Reply)
+    → IsPlanned asked files settings reply → reply.status ≡ statuses.OutOfReach → HasNoPlan asked files settings
 unfolding grounded_step
-out_of_reach_there unreached words files settings reply is out =
+out_of_reach_there unreached asked files settings reply is out =
     let later : IsLater statuses.OutOfReach = record { no_limit = λ e. cc; no_fault = λ e. cc } in
-    let of = answers words files settings reply statuses.OutOfReach later is out in
-    let goal = not_reached (refusal_of of.lifted) (grounded_of of.lifted) settings reply out of.replies in
-    (of.lifted, of.lifts, unreached words files settings of.lifted goal.0 goal.1 of.lifts goal.2)
+    let of = answers asked files settings reply statuses.OutOfReach later is out in
+    let goal = not_reached (refusal_of of.lifted) (grounded_of of.lifted) settings of.watchers reply out of.replies in
+    (of.lifted, of.lifts, unreached asked files settings of.lifted goal.0 goal.1 of.lifts goal.2)
 
 pub no_plan_answers : GoalsOutOfReachHaveNoPlan → EmptiedSearchesHaveNoPlan → AnswersOfNoPlanAreTrue
-no_plan_answers unreached emptied words files settings reply is (inl none) = no_plan_there emptied words files settings reply is none
-no_plan_answers unreached emptied words files settings reply is (inr out) = out_of_reach_there unreached words files settings reply is out
+no_plan_answers unreached emptied asked files settings reply is (inl none) = no_plan_there emptied asked files settings reply is none
+no_plan_answers unreached emptied asked files settings reply is (inr out) = out_of_reach_there unreached asked files settings reply is out

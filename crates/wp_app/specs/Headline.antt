@@ -10,45 +10,45 @@ use Rattle.wp_app.specs.declared.reply.Reply.{Reply}
 use Rattle.wp_app.specs.declared.reply.Status.{Status}
 use Rattle.wp_app.specs.declared.reply.Status.TheVariants as statuses
 use Rattle.wp_app.specs.declared.inputs.Texts.{Texts}
-use Rattle.wp_app.specs.declared.words.Command.{Command}
-use Rattle.wp_app.specs.declared.words.Command.TheVariants.{Check, Ground, Plan}
+use Rattle.wp_words.specs.declared.commands.Command.{Command}
+use Rattle.wp_words.specs.declared.commands.Command.TheVariants.{Check, Ground, Plan}
+use Rattle.wp_words.specs.Words.{command_of}
+use Rattle.wp_app.specs.Requests.{Asked, Request, request_of, file_of}
 use Rattle.wp_app.specs.Steps.{goes, ◌>>=◌}
-use Rattle.wp_app.specs.Words.{command_of}
-use Rattle.wp_app.specs.Names.{file_of}
-use Rattle.wp_app.specs.Texts.{read_fault_text}
+use Rattle.wp_report.specs.Inputs.{read_fault_text}
 use Rattle.wp_app.specs.Output.{answer_of, part_of, domain_step, texts_step}
 use Rattle.wp_app.specs.Puts.{IsCut}
 use Rattle.wp_app.specs.Statuses.{is_defined}
 
 -- the shelf tells its files, and the words come to one that is not there
-abbrev pub HasNoAnswer : List (List ℕ) → Option Contents → Type 0
-HasNoAnswer words contents = (files : Contents) × (contents ≡ Some files) × (answer_of words files ≡ None)
+abbrev pub HasNoAnswer : Asked → Option Contents → Type 0
+HasNoAnswer asked contents = (files : Contents) × (contents ≡ Some files) × (answer_of asked files ≡ None)
 
 -- the shelf's count of faults rose in the run; so it is said to have where there is no answer
-abbrev pub ShelfFailed : List (List ℕ) → Option Contents → ℕ → ℕ → Type 0
-ShelfFailed words contents before now = Rose before now ⊎ HasNoAnswer words contents
+abbrev pub ShelfFailed : Asked → Option Contents → ℕ → ℕ → Type 0
+ShelfFailed asked contents before now = Rose before now ⊎ HasNoAnswer asked contents
 
 -- the answer with its whole text after what the sink held, or want of memory and nothing more
-abbrev pub IsAnswer : List (List ℕ) → Contents → List ℕ → Option (List ℕ) → Status → Type 0
-IsAnswer words files held held_now status =
-    ((reply : Reply) × (answer_of words files ≡ Some reply) × (status ≡ reply.status) × (held_now ≡ Some (held ++ reply.text)))
+abbrev pub IsAnswer : Asked → Contents → List ℕ → Option (List ℕ) → Status → Type 0
+IsAnswer asked files held held_now status =
+    ((reply : Reply) × (answer_of asked files ≡ Some reply) × (status ≡ reply.status) × (held_now ≡ Some (held ++ reply.text)))
     ⊎ ((status ≡ statuses.Memory) × (held_now ≡ Some held))
 
 -- where shelf and sink tell, and the count of neither rose, the run answers
-abbrev pub Headline : List (List ℕ) → Option Contents → ℕ → ℕ → Option (List ℕ) → Option (List ℕ) → ℕ → ℕ → Status → Type 0
-Headline words contents shelf_before shelf_now held held_now before now status =
+abbrev pub Headline : Asked → Option Contents → ℕ → ℕ → Option (List ℕ) → Option (List ℕ) → ℕ → ℕ → Status → Type 0
+Headline asked contents shelf_before shelf_now held held_now before now status =
     (files : Contents) (old : List ℕ) → contents ≡ Some files → held ≡ Some old
-    → ¬ ShelfFailed words contents shelf_before shelf_now → ¬ Rose before now
-    → IsAnswer words files old held_now status
+    → ¬ ShelfFailed asked contents shelf_before shelf_now → ¬ Rose before now
+    → IsAnswer asked files old held_now status
 
 -- the reply is the answer, where the shelf tells
-abbrev pub IsDue : List (List ℕ) → Option Contents → Reply → Type 0
-IsDue words contents reply = (files : Contents) → contents ≡ Some files → answer_of words files ≡ Some reply
+abbrev pub IsDue : Asked → Option Contents → Reply → Type 0
+IsDue asked contents reply = (files : Contents) → contents ≡ Some files → answer_of asked files ≡ Some reply
 
 -- whatever failed: the status is that of the answer, and its whole text was taken
-pub record Answered (words : List (List ℕ)) (contents : Option Contents) (held held_now : Option (List ℕ)) (status : Status) : Type 0 where
+pub record Answered (asked : Asked) (contents : Option Contents) (held held_now : Option (List ℕ)) (status : Status) : Type 0 where
   pub text : List ℕ
-  pub due : IsDue words contents (record { text = text; status = status })
+  pub due : IsDue asked contents (record { text = text; status = status })
   pub taken : held_now ≡ appended held text
 
 -- the run comes to the file of a part: where the shelf tells, the parts before it are there, within their limits and without
@@ -66,49 +66,49 @@ IsReached contents (Check domain problem plan) parts.Problem =
 IsReached contents (Check domain problem plan) parts.Plan =
     (files : Contents) → contents ≡ Some files → (texts : Texts) × (texts_step domain problem files ≡ goes texts)
 IsReached contents (Ground domain problem) part = IsInputReached contents domain part
-IsReached contents (Plan domain problem settings) part = IsInputReached contents domain part
+IsReached contents (Plan domain problem settings watch plain) part = IsInputReached contents domain part
 
 -- the words name the part's file, and the run comes to it
-pub record IsNext (words : List (List ℕ)) (contents : Option Contents) (part : Part) : Type 0 where
-  pub command : Command
-  pub reads : command_of words ≡ Some command
-  pub names : IsSome (file_of command part)
-  pub reached : IsReached contents command part
+pub record IsNext (asked : Asked) (contents : Option Contents) (part : Part) : Type 0 where
+  pub request : Request
+  pub reads : request_of asked ≡ Some request
+  pub names : IsSome (file_of request.command part)
+  pub reached : IsReached contents request.command part
 
 -- the run came to the part's file, and did not get it
-pub record IsUnread (words : List (List ℕ)) (contents : Option Contents) (before now : ℕ) (part : Part) : Type 0 where
-  pub next : IsNext words contents part
-  pub fault : ShelfFailed words contents before now
+pub record IsUnread (asked : Asked) (contents : Option Contents) (before now : ℕ) (part : Part) : Type 0 where
+  pub next : IsNext asked contents part
+  pub fault : ShelfFailed asked contents before now
 
 -- a file was not read, and the line that says so was taken
-pub record ReadFaulted (words : List (List ℕ)) (contents : Option Contents) (before now : ℕ) (held held_now : Option (List ℕ)) : Type 0 where
+pub record ReadFaulted (asked : Asked) (contents : Option Contents) (before now : ℕ) (held held_now : Option (List ℕ)) : Type 0 where
   pub part : Part
-  pub unread : IsUnread words contents before now part
+  pub unread : IsUnread asked contents before now part
   pub taken : held_now ≡ appended held (read_fault_text part)
 
 -- what is to be written: the answer, or the line of a file that was not read
-abbrev pub IsReply : List (List ℕ) → Option Contents → ℕ → ℕ → Reply → Type 0
-IsReply words contents before now reply =
-    ((is_defined reply.status ≡ true) × IsDue words contents reply)
-    ⊎ ((part : Part) × (reply ≡ record { text = read_fault_text part; status = statuses.ReadFault }) × IsUnread words contents before now part)
+abbrev pub IsReply : Asked → Option Contents → ℕ → ℕ → Reply → Type 0
+IsReply asked contents before now reply =
+    ((is_defined reply.status ≡ true) × IsDue asked contents reply)
+    ⊎ ((part : Part) × (reply ≡ record { text = read_fault_text part; status = statuses.ReadFault }) × IsUnread asked contents before now part)
 
 -- the same of a command, whatever the words that it was read of
-abbrev pub IsReplyTo : Command → Option Contents → ℕ → ℕ → Reply → Type 0
-IsReplyTo command contents before now reply =
-    (reply.status ≢ statuses.Usage) × ((words : List (List ℕ)) → command_of words ≡ Some command → IsReply words contents before now reply)
+abbrev pub IsReplyTo : Request → Option Contents → ℕ → ℕ → Reply → Type 0
+IsReplyTo request contents before now reply =
+    (reply.status ≢ statuses.Usage) × ((asked : Asked) → request_of asked ≡ Some request → IsReply asked contents before now reply)
 
 -- the usage is told exactly where the words have no command
-pub record IsUsageOf (words : List (List ℕ)) (reply : Reply) : Type 0 where
-  pub only : reply.status ≡ statuses.Usage → command_of words ≡ None
-  pub always : command_of words ≡ None → reply.status ≡ statuses.Usage
+pub record IsUsageOf (asked : Asked) (reply : Reply) : Type 0 where
+  pub only : reply.status ≡ statuses.Usage → command_of asked.words ≡ None
+  pub always : command_of asked.words ≡ None → reply.status ≡ statuses.Usage
 
 -- the status of words without a command, with what may stand in its place
 abbrev pub IsUsageOrFault : Status → Type 0
 IsUsageOrFault status = (status ≡ statuses.Usage) ⊎ ((status ≡ statuses.WriteFault) ⊎ (status ≡ statuses.Memory))
 
 -- a put failed, and a front of what was to be written was taken
-pub record WriteFaulted (words : List (List ℕ)) (contents : Option Contents) (shelf_before shelf_now : ℕ) (held held_now : Option (List ℕ)) (before now : ℕ) : Type 0 where
+pub record WriteFaulted (asked : Asked) (contents : Option Contents) (shelf_before shelf_now : ℕ) (held held_now : Option (List ℕ)) (before now : ℕ) : Type 0 where
   pub rose : Rose before now
   pub reply : Reply
-  pub is : IsReply words contents shelf_before shelf_now reply
+  pub is : IsReply asked contents shelf_before shelf_now reply
   pub cut : IsCut held held_now reply.text

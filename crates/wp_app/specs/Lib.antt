@@ -1,12 +1,5 @@
 pub mod Steps
-pub mod Numbers
-pub mod Options
-pub mod Words
-pub mod Names
-pub mod Texts
-pub mod Refusals
-pub mod TaskText
-pub mod Endings
+pub mod Requests
 pub mod Output
 pub mod Statuses
 pub mod Stops

@@ -1,8 +1,9 @@
 -- The output of words and files: one text and one status, or none where it comes to a file that is not there. It is the first of
 -- these that has an answer: words without a command; of the domain, then the problem, then the plan, a file that is too long, then
 -- a fault of its text; a fault of the names; for `check` the verdict; for `ground` the cause against a task, or
--- the task; for `plan` that cause, or how the search of the task ends.
-use Rattle.std.specs.Prelude.{ℕ, nat_lt, true, false, Option, None, Some, Result, Ok, Err, List, [], ◌∷◌, length}
+-- the task; for `plan` that cause, or how the search of the task ends, with what the watchers say of it.
+use Rattle.std.specs.Prelude.{ℕ, nat_lt, true, false, Option, None, Some, Result, Ok, Err, List, [], ◌∷◌, ◌++◌, length}
+use Rattle.std.specs.List.{flat_map}
 use Rattle.std.specs.FinMap.{get}
 use Rattle.wp_edge.specs.Fetch.{Contents}
 use Rattle.wp_lex.specs.declared.error.LexError.{LexError}
@@ -35,21 +36,25 @@ use Rattle.wp_app.specs.declared.reply.Reply.{Reply}
 use Rattle.wp_app.specs.declared.reply.Status.{Status}
 use Rattle.wp_app.specs.declared.reply.Status.TheVariants as statuses
 use Rattle.wp_app.specs.declared.inputs.Texts.{Texts}
-use Rattle.wp_app.specs.declared.words.Command.{Command}
-use Rattle.wp_app.specs.declared.words.Command.TheVariants.{Check, Ground, Plan}
+use Rattle.wp_words.specs.declared.commands.Command.{Command}
+use Rattle.wp_words.specs.declared.commands.Command.TheVariants.{Check, Ground, Plan}
+use Rattle.wp_app.specs.Requests.{Asked, Request, request_of}
 use Rattle.wp_app.specs.Steps.{Step, missing, ends, goes, reply_of, ◌>>=◌}
-use Rattle.wp_app.specs.Words.{command_of}
-use Rattle.wp_app.specs.Texts.{usage_text, too_long_text, verdict_text}
-use Rattle.wp_app.specs.Refusals.{lex_text, pddl_text, plan_error_text}
-use Rattle.wp_app.specs.TaskText.{ground_text}
-use Rattle.wp_app.specs.Endings.{ending_text, ground_error_text, text_of_counts}
 use Rattle.wp_plain.specs.declared.settings.Search.{Search}
 use Rattle.wp_plain.specs.declared.settings.Search.TheVariants.{KBfws, F5}
 use Rattle.wp_plain.specs.declared.settings.Settings.{Settings}
 use Rattle.wp_plain.specs.declared.ending.Ending.{Ending}
 use Rattle.wp_plain.specs.declared.ending.How.{How}
 use Rattle.wp_plain.specs.declared.ending.How.TheVariants as hows
-use Rattle.wp_plain.specs.Run.{ending_of}
+use Rattle.wp_plain.specs.Pairs.{tuple_count}
+use Rattle.wp_plain.specs.Run.{run, ending_of}
+use Rattle.wp_watch.specs.declared.watch.WatchKind.{WatchKind}
+use Rattle.wp_watch.specs.Places.{texts_after}
+use Rattle.wp_report.specs.Inputs.{usage_text, too_long_text}
+use Rattle.wp_report.specs.Refusals.{lex_text, pddl_text, plan_error_text}
+use Rattle.wp_report.specs.Verdicts.{verdict_text}
+use Rattle.wp_report.specs.Tasks.{ground_text, ground_error_text}
+use Rattle.wp_report.specs.Endings.{ending_text}
 
 -- the most bytes that the file of a part may have
 abbrev pub limit_of : Part → ℕ
@@ -64,8 +69,8 @@ answered status text = ends (record { text = text; status = status })
 abbrev pub refused : {A : Type 0} → List ℕ → Step A
 refused text = answered statuses.Refused text
 
-unfoldable pub command_step : List (List ℕ) → Step Command
-command_step words = elim (command_of words) [ Some command ↦ goes command | None ↦ answered statuses.Usage usage_text ]
+unfoldable pub request_step : Asked → Step Request
+request_step asked = elim (request_of asked) [ Some request ↦ goes request | None ↦ answered statuses.Usage usage_text ]
 
 -- the bytes of a part's file, where they are within its limit
 abbrev pub within : Part → Option (List ℕ) → Step (List ℕ)
@@ -177,19 +182,25 @@ ending_status search (hows.Words pairs) = statuses.Words
 
 unfoldable pub ending_reply : Settings → Grounded → Ending → Reply
 ending_reply settings grounded ending = record {
-  text = ending_text settings grounded ending.how (text_of_counts ending.counts);
+  text = ending_text grounded settings (tuple_count settings.width grounded.task.atoms) ending true;
   status = ending_status settings.search ending.how;
 }
 
--- the ending of the search of the task
-unfoldable pub searched_reply : Settings → Grounded → Reply
-searched_reply settings grounded = ending_reply settings grounded (ending_of grounded.task settings)
+-- a reply with more text behind its own
+abbrev pub with_texts : Reply → List (List ℕ) → Reply
+with_texts reply texts = record reply { text = reply.text ++ flat_map (λ text. text) texts }
 
-unfoldable pub planned_step : Settings → Texts → Step Reply
-planned_step settings texts = do
+-- the ending of the search of the task, and behind it what the watchers say of its events, in their order
+unfoldable pub searched_reply : Settings → List (WatchKind × Option ℕ) → Grounded → Reply
+searched_reply settings watchers grounded =
+    with_texts (ending_reply settings grounded (ending_of grounded.task settings))
+    (texts_after watchers (run grounded.task settings).1.events)
+
+unfoldable pub planned_step : Settings → List (WatchKind × Option ℕ) → Texts → Step Reply
+planned_step settings watchers texts = do
   lifted ← lifted_step texts.domain texts.problem
   grounded ← grounded_step lifted
-  goes (searched_reply settings grounded)
+  goes (searched_reply settings watchers grounded)
 
 unfoldable pub numbered_step : Texts → Step Reply
 numbered_step texts = do
@@ -197,21 +208,34 @@ numbered_step texts = do
   grounded ← grounded_step lifted
   goes (ground_reply grounded)
 
-unfoldable pub run_step : Command → Contents → Step Reply
-run_step (Check domain problem plan) files = do
+-- ---- by command, from the names of its files
+unfoldable pub files_checked_step : List ℕ → List ℕ → List ℕ → Contents → Step Reply
+files_checked_step domain problem plan files = do
   texts ← texts_step domain problem files
   check_step texts plan files
-run_step (Ground domain problem) files = do
+
+unfoldable pub files_numbered_step : List ℕ → List ℕ → Contents → Step Reply
+files_numbered_step domain problem files = do
   texts ← texts_step domain problem files
   numbered_step texts
-run_step (Plan domain problem settings) files = do
+
+unfoldable pub files_planned_step : List ℕ → List ℕ → Settings → List (WatchKind × Option ℕ) → Contents → Step Reply
+files_planned_step domain problem settings watchers files = do
   texts ← texts_step domain problem files
-  planned_step settings texts
+  planned_step settings watchers texts
 
-unfoldable pub steps_of : List (List ℕ) → Contents → Step Reply
-steps_of words files = do
-  command ← command_step words
-  run_step command files
+abbrev pub command_step : List (WatchKind × Option ℕ) → Command → Contents → Step Reply
+command_step watchers (Check domain problem plan) files = files_checked_step domain problem plan files
+command_step watchers (Ground domain problem) files = files_numbered_step domain problem files
+command_step watchers (Plan domain problem settings watch plain) files = files_planned_step domain problem settings watchers files
 
-abbrev pub answer_of : List (List ℕ) → Contents → Option Reply
-answer_of words files = reply_of (steps_of words files)
+unfoldable pub run_step : Request → Contents → Step Reply
+run_step request files = command_step request.watchers request.command files
+
+unfoldable pub steps_of : Asked → Contents → Step Reply
+steps_of asked files = do
+  request ← request_step asked
+  run_step request files
+
+abbrev pub answer_of : Asked → Contents → Option Reply
+answer_of asked files = reply_of (steps_of asked files)

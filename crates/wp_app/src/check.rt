@@ -2,10 +2,10 @@
 
 ghost use Rattle.std.specs.Prelude.{◌≡◌, ◌≤◌, IfOk, IsTrue, IsUtf8};
 ghost use Rattle.wp_app.specs.Headline.{IsReached};
-ghost use Rattle.wp_app.specs.Output.{run_step, check_step};
+ghost use Rattle.wp_app.specs.Output.{files_checked_step, check_step};
 ghost use Rattle.wp_app.specs.Statuses.{is_of_files};
 ghost use Rattle.wp_app.specs.Stops.{Follows, IfUnread};
-ghost use Rattle.wp_app.specs.declared.words.Command.TheVariants.{Check};
+ghost use Rattle.wp_words.specs.declared.commands.Command.TheVariants.{Check};
 ghost use Rattle.wp_syntax.specs.declared.error.Part.TheVariants.{Plan};
 
 use crate::fetch::read_part;
@@ -18,7 +18,7 @@ use wp_edge::{Shelf, Text};
 use wp_syntax::Part;
 
 /// The verdict on a plan in a domain and a problem, of the files of these names.
-#[tactic(auto, unfolding(crate::specs::Output::run_step))]
+#[tactic(auto, unfolding(crate::specs::Output::files_checked_step))]
 pub fn check<S: Shelf>(
     alloc: Global,
     shelf: &mut S,
@@ -29,7 +29,7 @@ pub fn check<S: Shelf>(
     requires domain { IsUtf8 domain.now }
     requires problem { IsUtf8 problem.now }
     requires plan { IsUtf8 plan.now }
-    ensures follows { Follows (S.contents shelf.old) (run_step (Check domain.now problem.now plan.now)) (S.faults shelf.old) (S.faults shelf.new) result }
+    ensures follows { Follows (S.contents shelf.old) (files_checked_step domain.now problem.now plan.now) (S.faults shelf.old) (S.faults shelf.new) result }
     ensures defined { IfOk result (λ reply. IsTrue (is_of_files reply.status)) }
     ensures unread { IfUnread result (IsReached (S.contents shelf.old) (Check domain.now problem.now plan.now)) }
     ensures same { S.contents shelf.new ≡ S.contents shelf.old }

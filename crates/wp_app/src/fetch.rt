@@ -2,16 +2,16 @@
 
 ghost use Rattle.std.specs.Prelude.{◌≡◌, ◌≤◌, IsUtf8};
 ghost use Rattle.wp_app.specs.Output.{part_of, limit_of, answered};
-ghost use Rattle.wp_app.specs.Texts.{too_long_text};
 ghost use Rattle.wp_app.specs.declared.reply.Status.TheVariants.{Limit};
 ghost use Rattle.wp_app.specs.Stops.{Follows, Meets, IfUnread};
+ghost use Rattle.wp_report.specs.Inputs.{too_long_text};
 
 use crate::reply::Status;
 use crate::stop::{Stop, ended};
-use crate::texts::too_long_text;
 use std::alloc::Global;
 use std::str;
 use wp_edge::{FetchError, Shelf, Text};
+use wp_report::too_long_text;
 use wp_syntax::Part;
 
 /// The bytes of the file of that name.

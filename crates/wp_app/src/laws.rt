@@ -1,10 +1,10 @@
 //! Laws of the answers to `plan`: what the printed text and the statuses say of the files.
 
-ghost use Rattle.wp_app.specs.Laws.{AnswersOfNoPlanAreTrue, DoneAnswersAreValidPlans, EmptiedSearchesHaveNoPlan, FoundPlansAreReadBack, GoalsOutOfReachHaveNoPlan, SearchesAreBounded};
+ghost use Rattle.wp_app.specs.Laws.{AnswersOfNoPlanAreTrue, DoneAnswersAreValidPlans, EmptiedSearchesHaveNoPlan, FoundPlansAreReadBack, GoalsOutOfReachHaveNoPlan, LargeBudgetsAreNotSpent, LargeLimitsAreNotReached, SearchesAreBounded};
 
 use wp_check::plans_of_texts_are_read_back;
 use wp_ground::{plans_are_valid, unreached_goals_have_no_plan, valid_plans_are_numbered};
-use wp_plain::{emptied_has_no_plan, expansions_are_few, found_is_plan};
+use wp_plain::{emptied_has_no_plan, expansions_are_few, found_is_plan, limits_are_enough};
 
 /// Where a plan is found, the printed text, its last line with the counts included, is read back as the steps of that plan,
 /// and these steps are valid for the files that were read.
@@ -37,6 +37,16 @@ pub fn searches_are_bounded()
     ensures { SearchesAreBounded }
 {
     expansions_are_few();
+}
+
+/// Limits that are large enough end no search: where the budget of k-BFWS is above the bound on its expansions, the answer is not
+/// that it is spent; where BFWS(f5) has a budget for all reachable states and words for all pairs of counters, the answer is a
+/// plan, or that there is none.
+pub fn large_limits_are_not_reached()
+    ensures budget { LargeBudgetsAreNotSpent }
+    ensures limits { LargeLimitsAreNotReached }
+{
+    limits_are_enough();
 }
 
 /// Where `plan` answers that it is done, the printed text is read back as the steps of a valid plan for the files that were read.

@@ -7,31 +7,22 @@
 //! a reply. `wp_main` calls it with the real files and output, tests with those in memory.
 #![tactic(auto)]
 
-mod atom_text;
 mod check;
-pub mod ending_text;
 mod fetch;
 mod ground;
 mod inputs;
 mod laws;
-mod numbers;
-mod options;
-mod pieces;
 mod plan;
 mod put;
 mod readers;
-pub mod refusals;
 mod reply;
 mod run;
 mod stop;
-pub mod task_text;
-pub mod texts;
-pub mod verdict_text;
-mod words;
 
 pub use laws::{
     answers_of_no_plan_are_true, done_answers_are_valid_plans, emptied_searches_have_no_plan,
-    found_plans_are_read_back, goals_out_of_reach_have_no_plan, searches_are_bounded,
+    found_plans_are_read_back, goals_out_of_reach_have_no_plan, large_limits_are_not_reached,
+    searches_are_bounded,
 };
 pub use reply::{Reply, Status};
 pub use run::run_words;

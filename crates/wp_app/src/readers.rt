@@ -7,16 +7,15 @@ ghost use Rattle.wp_app.specs.Stops.{Meets};
 ghost use Rattle.wp_check.specs.PlanFile.{AreShort};
 
 use crate::inputs::Texts;
-use crate::refusals::{lex_text, pddl_text, plan_error_text};
 use crate::reply::{Reply, Status};
 use crate::stop::{Stop, ended};
-use crate::verdict_text::verdict_text;
 use std::alloc::{AllocError, Global};
-use wp_check::{Steps, Verdict, read_plan, verdict};
+use wp_check::{PlanError, Steps, Verdict, read_plan, verdict};
 use wp_edge::Text;
-use wp_lex::{Tree, read_tree};
+use wp_lex::{LexError, Tree, read_tree};
 use wp_lift::{Lifted, lift};
-use wp_syntax::{Domain, Part, Problem, read_domain, read_problem};
+use wp_report::{lex_text, pddl_text, plan_error_text, verdict_text};
+use wp_syntax::{Domain, Part, PddlError, Problem, read_domain, read_problem};
 
 /// The domain of a text, or the refusal of it.
 #[tactic(auto, unfolding(crate::specs::Output::domain_step))]
@@ -33,6 +32,7 @@ fn domain_in(alloc: Global, tree: &Tree) -> Result<Domain, Stop>
 {
     match read_domain(alloc, tree) {
         Ok(domain) => Ok(domain),
+        Err(PddlError::Memory) => Err(Stop::Memory),
         Err(error) => refuse(pddl_text(alloc, &error)?),
     }
 }
@@ -52,6 +52,7 @@ fn problem_in(alloc: Global, tree: &Tree) -> Result<Problem, Stop>
 {
     match read_problem(alloc, tree) {
         Ok(problem) => Ok(problem),
+        Err(PddlError::Memory) => Err(Stop::Memory),
         Err(error) => refuse(pddl_text(alloc, &error)?),
     }
 }
@@ -63,6 +64,7 @@ fn tree_of(alloc: Global, part: Part, text: &Text) -> Result<Tree, Stop>
 {
     match read_tree(alloc, text.as_slice()) {
         Ok(tree) => Ok(tree),
+        Err(LexError::Memory) => Err(Stop::Memory),
         Err(error) => refuse(lex_text(alloc, part, &error)?),
     }
 }
@@ -75,6 +77,7 @@ pub fn steps_of(alloc: Global, text: &Text) -> Result<Steps, Stop>
 {
     match read_plan(alloc, text.as_slice()) {
         Ok(steps) => Ok(steps),
+        Err(PlanError::Memory) => Err(Stop::Memory),
         Err(error) => refuse(plan_error_text(alloc, &error)?),
     }
 }
@@ -104,6 +107,7 @@ pub fn lifted_of(alloc: Global, texts: &Texts) -> Result<Lifted, Stop>
 {
     match lift(alloc, &texts.domain, &texts.problem) {
         Ok(lifted) => Ok(lifted),
+        Err(PddlError::Memory) => Err(Stop::Memory),
         Err(error) => refuse(pddl_text(alloc, &error)?),
     }
 }

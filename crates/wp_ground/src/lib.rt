@@ -1,7 +1,8 @@
 //! Grounding: the task of a lifted problem, over the atoms that are reached when nothing is deleted.
 //!
 //! Callers see the reached atoms (`specs/Reached.antt`), the task over them with the names of its atoms and actions
-//! (`specs/Tasks.antt`, `specs/Texts.antt`), and the causes of a refusal (`specs/Refusals.antt`).
+//! (`specs/Tasks.antt`, `specs/Texts.antt`), and the causes of a refusal (`specs/Refusals.antt`). Other texts print atoms and
+//! objects by the calls that make these names.
 #![tactic(auto)]
 
 mod acts;
@@ -17,3 +18,4 @@ pub use laws::{
     plans_are_valid, reached_atoms_are_least, unreached_goals_have_no_plan,
     valid_plans_are_numbered,
 };
+pub use texts::{atom_text, object_name};

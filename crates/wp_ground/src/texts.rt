@@ -87,8 +87,8 @@ fn put_objects(out: &mut Vec<u8>, lifted: &Lifted, objects: &[u32]) -> Result<()
     Ok(())
 }
 
-// Past the end of a list stands no name.
-fn object_name(lifted: &Lifted, object: u32) -> &[u8]
+/// The name of an object; nothing past the end of the objects.
+pub fn object_name(lifted: &Lifted, object: u32) -> &[u8]
     ensures { result.now ≡ object_text lifted.now object }
 {
     match lifted.objects().as_slice().get(object as usize) {

@@ -17,6 +17,7 @@ use std::rt::{Env, Files};
 use std::thread::Threads;
 use wp_app::{Status, run_words};
 use wp_edge::OpenGate;
+use wp_watch::{Fronts, Tally, Trace, Watch};
 
 fn main(rt: HostRuntime) -> ExitCode {
     ExitCode::from(run(&rt).code())
@@ -27,16 +28,25 @@ fn run<R: Env + Files + Print + AllocGlobal + Threads + Sync>(rt: &R) -> Status 
     let Ok(words) = given_words(rt) else {
         return Status::Memory;
     };
+    match watched(rt, words.as_slice()) {
+        Ok(status) => status,
+        Err(_) => Status::Memory,
+    }
+}
+
+/// Runs the words with a watcher of each kind that they can ask for, in the order of their texts.
+fn watched<R: Files + Print + AllocGlobal + Threads + Sync>(
+    rt: &R,
+    words: &[String],
+) -> Result<Status, AllocError> {
+    let alloc = rt.alloc();
+    let mut watchers: Vec<Box<dyn Watch>> = Vec::new(alloc);
+    watchers.push(Box::new(alloc, Tally::new(alloc, None))?)?;
+    watchers.push(Box::new(alloc, Trace::new(alloc, None))?)?;
+    watchers.push(Box::new(alloc, Fronts::new(alloc, None))?)?;
     let mut shelf = FileShelf::new(rt);
     let mut sink = OutSink::new(rt);
-    run_words(
-        rt,
-        rt.alloc(),
-        words.as_slice(),
-        &mut shelf,
-        &mut sink,
-        &OpenGate,
-    )
+    Ok(run_words(rt, alloc, words, &mut shelf, &mut sink, &OpenGate, watchers))
 }
 
 /// The words after the program's name. Where one of them is not text there are none: they name no command.

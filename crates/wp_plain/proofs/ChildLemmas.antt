@@ -12,8 +12,7 @@ use Rattle.wp_count.specs.Broods.{with_achieved, base_child, later_child, child_
 use Rattle.wp_count.specs.Laws.{IsEvaluated}
 use Rattle.wp_plain.specs.Nodes.{Successor}
 use Rattle.wp_plain.specs.Expansion.{successors_of, unseen, generated_at, fresh_of}
-use Rattle.wp_plain.specs.Explored.{bare, numbered}
-use Rattle.wp_plain.proofs.NodeLemmas.{all_numbered}
+use Rattle.wp_plain.specs.Explored.{bare, numbered, all_numbered}
 
 map-made : {X Y Z : Type 0} (f : X → Y) (h : Y → Z) (g : X → Z) → ((x : X) → h (f x) ≡ g x) → (xs : List X) → map h (map f xs) ≡ map g xs
 map-made f h g same [] = refl

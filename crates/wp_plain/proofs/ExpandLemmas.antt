@@ -9,6 +9,10 @@ use Rattle.wp_task.specs.Novelty.{Generated}
 use Rattle.wp_count.specs.declared.brood.Child.{Child}
 use Rattle.wp_count.specs.Laws.{IsEvaluated, ChildrenAreEvaluated}
 use Rattle.wp_watch.specs.declared.event.Event.{Event}
+use Rattle.wp_watch.specs.declared.watch.WatchKind.{WatchKind}
+use Rattle.wp_watch.specs.Sums.{born_in, repeats_in}
+use Rattle.wp_watch.specs.Places.{Place, CanTellPlace, told_place, AreAfter}
+use Rattle.wp_watch.specs.Laws.{OneMoreIsTold, OneMoreCanBeTold}
 use Rattle.wp_plain.specs.declared.settings.Settings.{Settings}
 use Rattle.wp_plain.specs.declared.ending.How.TheVariants.{Words}
 use Rattle.wp_plain.specs.declared.explored.Link.{Link}
@@ -18,10 +22,11 @@ use Rattle.wp_plain.specs.Pairs.{with_pair, pairs_in, tuple_count, exceeds}
 use Rattle.wp_plain.specs.Expansion.{successors_of, unseen, fresh_of, node_of, borns_of, event_of}
 use Rattle.wp_plain.specs.Run.{Moment, Outcome, expanded, expand}
 use Rattle.wp_plain.specs.Run.Outcome.{Goes, Ends}
-use Rattle.wp_plain.specs.Explored.{no_node, node_at, way_at, track_at, path_over, states_before, lists_of, bare, child_pair, brood_at, with_children, without_waiting, moment_of, Lists, AreReached, IsReached, StandsFor}
+use Rattle.wp_plain.specs.Explored.{no_node, node_at, way_at, track_at, path_over, states_before, lists_of, bare, all_numbered, child_pair, brood_at, without_waiting, expanded_at, event_at, moment_of, watched, Lists, AreReached, IsReached, StandsFor}
 use Rattle.wp_plain.proofs.ReachedLemmas.{reached-children}
-use Rattle.wp_plain.proofs.NodeLemmas.{all_numbered, nodes-children, pairs_in-numbered, generated_in-set}
-use Rattle.wp_plain.proofs.ChildLemmas.{bare-children, unseen-bare, unseen-all, fresh-numbered}
+use Rattle.wp_plain.proofs.NodeLemmas.{nodes-children, pairs_in-numbered, generated_in-set}
+use Rattle.wp_plain.proofs.ChildLemmas.{bare-children, unseen-bare, unseen-few, unseen-all, fresh-numbered}
+use Rattle.wp_plain.proofs.EventLemmas.{length-numbered, length-borns, event-expanded}
 
 -- the definition's expansion, by its parts
 abbrev expand_by : PlanningTask → Settings → Moment → Node → List Successor → List Successor → List Generated → Outcome
@@ -58,13 +63,16 @@ pub record IsBrood (task : PlanningTask) (e : Explored) (place : ℕ) (fresh : L
   pub unseen_is : fresh ≡ unseen (λ c. c.state) (states_kept e.nodes.items) (brood_at task (lists_of e) place)
   pub pairs_is : pairs ≡ fold with_pair e.pairs.items (map child_pair fresh)
 
--- what is there after it
-pub record IsCommitted (task : PlanningTask) (settings : Settings) (e later : Explored) (place : ℕ) (fresh : List Child) : Type 0 where
+-- what is there after it, where it was told
+pub record IsCommitted (task : PlanningTask) (settings : Settings) (e later : Explored) (place : ℕ) (fresh : List Child) (repeats : ℕ) (places now : List Place) : Type 0 where
   pub spare : e.expanded < settings.budget
   pub small : length (brood_at task (lists_of e) place) ≤ 1048576
-  pub lists : lists_of later ≡ with_children settings place (way_at e.ways.items place).mark.track (without_waiting place (lists_of e)) fresh
+  pub lists : lists_of later ≡ expanded_at settings place (lists_of e) fresh
   pub expansions : later.expanded ≡ e.expanded + 1
-  pub repeats : later.repeats ≡ e.repeats + (length (brood_at task (lists_of e) place) - length fresh)
+  pub counted : repeats ≡ length (brood_at task (lists_of e) place) - length fresh
+  pub sum : later.repeats ≡ e.repeats + repeats
+  pub law : OneMoreIsTold
+  pub told : now ≡ map (told_place (event_at (expanded_at settings place (lists_of e) fresh) place repeats (length e.nodes.items))) places
 
 -- ---- a node that waits no longer
 generated-left : (nodes : List Node) (i k : ℕ) (x : Node) → x.generated ≡ (node_at nodes i).generated → i < length nodes →
@@ -97,8 +105,9 @@ states-over : (paths : List Path) (state : List Bool) (back : Option Link) → (
 states-over paths state None = refl
 states-over paths state (Some link) = refl
 
-module _ (task : PlanningTask) (settings : Settings) (e : Explored) (paths : List Path) (events : List Event) (place : ℕ) (fresh : List Child) (pairs : List (ℕ × ℕ))
-    (stands : StandsFor task settings e paths events) (expansion : IsBrood task e place fresh pairs) where
+module _ (task : PlanningTask) (settings : Settings) (watchers : List (WatchKind × Option ℕ)) (e : Explored) (places : List Place)
+    (paths : List Path) (events : List Event) (place : ℕ) (fresh : List Child) (pairs : List (ℕ × ℕ))
+    (stands : StandsFor task settings watchers (watched e places) paths events) (expansion : IsBrood task e place fresh pairs) where
   evaluated : All (IsEvaluated task (path_at paths place).states (track_at e.tracks.items (way_at e.ways.items place).mark.track)) fresh
   evaluated =
       let way = way_at e.ways.items place in
@@ -145,7 +154,32 @@ module _ (task : PlanningTask) (settings : Settings) (e : Explored) (paths : Lis
       (ap (λ ps. exceeds settings.words (length ps) (tuple_count settings.width task.atoms)) pairs-are ∙ many)
       ∙ ap (λ ps. Ends (Words (length ps))) pairs-are)
 
-  module _ (later : Explored) (committed : IsCommitted task settings e later place fresh) (pairs_later : later.pairs.items ≡ pairs) where
+  -- the children are no more than the brood
+  few-fresh : length fresh ≤ length (brood_at task (lists_of e) place)
+  few-fresh =
+      omega (arith, ap length expansion.unseen_is, unseen-few (λ c. c.state) (states_kept e.nodes.items) (brood_at task (lists_of e) place))
+
+  -- what the lists tell is the definition's event
+  event-is : (repeats : ℕ) → event_at (expanded_at settings place (lists_of e) fresh) place repeats (length e.nodes.items) ≡
+      event_of (node_at e.nodes.items place) repeats
+      (borns_of (map bare fresh) (map (node_of settings (generated_in e.nodes.items ++ all_numbered (length e.nodes.items) fresh)) (all_numbered (length e.nodes.items) fresh)))
+  event-is repeats = event-expanded settings place (lists_of e) fresh repeats expansion.within stands.reached.way_each
+
+  -- one more event can be told
+  pub can-tell : OneMoreCanBeTold → settings.budget ≤ 100000000 → e.expanded < settings.budget → length (brood_at task (lists_of e) place) ≤ 1048576 →
+      (repeats : ℕ) → repeats ≡ length (brood_at task (lists_of e) place) - length fresh →
+      All (CanTellPlace (event_at (expanded_at settings place (lists_of e) fresh) place repeats (length e.nodes.items))) places
+  can-tell can few spare small repeats counted =
+      let event = event_at (expanded_at settings place (lists_of e) fresh) place repeats (length e.nodes.items) in
+      let born : length event.born ≡ length fresh =
+      ap (λ (x : Event). length x.born) (event-is repeats)
+      ∙ length-borns settings (generated_in e.nodes.items ++ all_numbered (length e.nodes.items) fresh) (length e.nodes.items) fresh in
+      let told : repeats_in events ≡ e.repeats = sym stands.repeats in
+      can watchers events places event stands.told
+      (omega (arith, told, few, spare, small, counted, stands.bounded))
+      (omega (arith, born, few, spare, small, few-fresh, stands.few_born))
+
+  module _ (later : Explored) (repeats : ℕ) (now : List Place) (committed : IsCommitted task settings e later place fresh repeats places now) (pairs_later : later.pairs.items ≡ pairs) where
     nodes-later : later.nodes.items ≡
         set e.nodes.items (node_at e.nodes.items place).generated.number (record (node_at e.nodes.items place) { waits = false })
         ++ map (node_of settings (generated_in e.nodes.items ++ all_numbered (length e.nodes.items) fresh)) (all_numbered (length e.nodes.items) fresh)
@@ -186,25 +220,41 @@ module _ (task : PlanningTask) (settings : Settings) (e : Explored) (paths : Lis
         here.has_track is_path refl
         (subst (λ q. All (IsEvaluated task q.states track) fresh) is_path evaluated))
 
+    length-later : length later.nodes.items ≡ length e.nodes.items + length fresh
+    length-later =
+        let nodes = e.nodes.items in
+        let x : Node = record (node_at nodes place) { waits = false } in
+        let nums = all_numbered (length nodes) fresh in
+        let number = (node_at nodes place).generated.number in
+        let children = map (node_of settings (generated_in nodes ++ nums)) nums in
+        ap length nodes-later
+        ∙ (length-append (set nodes number x) children
+        ∙ λ j. length-set nodes number x j + (length-map nums (node_of settings (generated_in nodes ++ nums)) ∙ length-numbered (length nodes) fresh) j)
+
     stands-later : (last : List Path) (event : Event) → AreReached task last (lists_of later) →
-        event.repeats ≡ length (map bare (brood_at task (lists_of e) place)) - length (map bare fresh) →
-        StandsFor task settings later last (events ++ event ∷ [])
-    stands-later last event reached_last repeats_is =
-        let brood = brood_at task (lists_of e) place in
-        let lengths : length (map bare brood) - length (map bare fresh) ≡ length brood - length fresh = λ j. length-map brood bare j - length-map fresh bare j in
+        event ≡ event_at (expanded_at settings place (lists_of e) fresh) place repeats (length e.nodes.items) →
+        length event.born ≡ length fresh →
+        StandsFor task settings watchers (watched later now) last (events ++ event ∷ [])
+    stands-later last event reached_last event_told born_is =
+        let repeats_are : event.repeats ≡ repeats = ap (λ (x : Event). x.repeats) event_told in
+        let sum : born_in (events ++ event ∷ []) ≡ born_in events + length event.born = sum_by_push (λ (x : Event). length x.born) events event in
         record {
           reached = reached_last;
           pairs = pairs_later ∙ (sym pairs-are ∙ ap pairs_in (sym generated-later));
           expanded = committed.expansions ∙ (ap (λ n. n + 1) stands.expanded ∙ sym (length-append events (event ∷ [])));
-          repeats = committed.repeats
-              ∙ ((λ j. stands.repeats j + sym (repeats_is ∙ lengths) j)
+          repeats = committed.sum
+              ∙ ((λ j. stands.repeats j + sym repeats_are j)
               ∙ sym (sum_by_push (λ x. x.repeats) events event));
           few = omega (arith, committed.expansions, committed.spare);
-          bounded = omega (arith, committed.expansions, committed.repeats, committed.small, stands.bounded);
+          bounded = omega (arith, committed.expansions, committed.sum, committed.counted, committed.small, stands.bounded);
+          told = subst (AreAfter watchers (events ++ event ∷ [])) (ap (λ (x : Event). map (told_place x) places) event_told ∙ sym committed.told)
+              (committed.law watchers events places event stands.told);
+          born = omega (arith, sum, born_is, stands.born, length-later);
+          few_born = omega (arith, sum, born_is, few-fresh, committed.small, committed.expansions, stands.few_born);
         }
 
     pub expand-goes : exceeds settings.words (length pairs) (tuple_count settings.width task.atoms) ≡ false →
-        (last : List Path) × (told : List Event) × StandsFor task settings later last told
+        (last : List Path) × (told : List Event) × StandsFor task settings watchers (watched later now) last told
         × (expand task settings (moment_of e paths events) (node_at e.nodes.items place) ≡ Goes (moment_of later last told))
     expand-goes few =
         let nodes = e.nodes.items in
@@ -219,4 +269,12 @@ module _ (task : PlanningTask) (settings : Settings) (e : Explored) (paths : Lis
         ∙ (expand_by-goes task settings (moment_of e paths events) node brood (map bare fresh) nums
         (ap (λ ps. exceeds settings.words (length ps) (tuple_count settings.width task.atoms)) pairs-are ∙ few)
         ∙ λ j. Goes (let m : Moment = record { nodes = sym nodes-later j; paths = last; events = events ++ event ∷ [] } in m)) in
-        (last, events ++ event ∷ [], stands-later last event reached-later refl, goes)
+        let counted : length brood - length (map bare fresh) ≡ repeats =
+        (λ j. length-map (brood_at task (lists_of e) place) bare j - length-map fresh bare j) ∙ sym committed.counted in
+        let told : event ≡ event_at (expanded_at settings place (lists_of e) fresh) place repeats (length nodes) =
+        ap (λ (n : ℕ). event_of node n (borns_of (map bare fresh) children)) counted ∙ sym (event-is repeats) in (
+          last,
+          events ++ event ∷ [],
+          stands-later last event reached-later told (length-borns settings (generated_in nodes ++ nums) (length nodes) fresh),
+          goes,
+        )

@@ -9,11 +9,13 @@ pub mod CounterPairs
 pub mod NewTuples
 pub mod SparseLemmas
 pub mod LimitLemmas
+pub mod AnswerLemmas
 pub mod ListLemmas
 pub mod TupleLemmas
 pub mod ReachedLemmas
 pub mod NodeLemmas
 pub mod ChildLemmas
+pub mod EventLemmas
 pub mod ExpandLemmas
 pub mod PathLemmas
 pub mod RunLemmas

@@ -141,7 +141,7 @@ seen_from_there seen s there =
 
 module _ {X : Type 0} (state : X → List Bool) where
   -- the states of what is unseen differ from those that were seen, and from each other
-  unseen-new : (seen : List (List Bool)) (xs : List X) (s : List Bool) → In s (map state (unseen state seen xs)) → In s seen → ⊥
+  pub unseen-new : (seen : List (List Bool)) (xs : List X) (s : List Bool) → In s (map state (unseen state seen xs)) → In s seen → ⊥
   unseen-new seen [] s there old = absurd there
   unseen-new seen (x ∷ xs) s there old =
       by (list_any (pointwise beq (state x)) seen) refl there (unseen-new seen xs s) (unseen-new (seen ++ state x ∷ []) xs s) where
@@ -154,7 +154,7 @@ module _ {X : Type 0} (state : X → List Bool) where
             both_ways (list_any (pointwise beq (state x)) seen) is (seen_from_there seen (state x) (subst (λ t. In t seen) same old))
         by false is (inr among) rest later = later among (In-append_left seen (state x ∷ []) s old)
 
-  unseen-apart : (seen : List (List Bool)) (xs : List X) → AreApart (map state (unseen state seen xs))
+  pub unseen-apart : (seen : List (List Bool)) (xs : List X) → AreApart (map state (unseen state seen xs))
   unseen-apart seen [] = tt
   unseen-apart seen (x ∷ xs) =
       by (list_any (pointwise beq (state x)) seen) (unseen-apart seen xs) (unseen-apart (seen ++ state x ∷ []) xs) where

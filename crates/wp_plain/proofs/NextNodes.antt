@@ -19,7 +19,8 @@ use Rattle.wp_plain.specs.Nodes.{Node, Path, Successor, no_path, path_at, extend
 use Rattle.wp_plain.specs.Expansion.{successors_of, unseen, generated_at, fresh_of, with_novelty, node_of}
 use Rattle.wp_plain.specs.Run.{Moment, expanded}
 use Rattle.wp_plain.proofs.StepCases.{fresh_at, children_at, all_at, nodes_at, repeats_at}
-use Rattle.wp_plain.proofs.NumberLemmas.{CountUp, number_below, node_there, CountUp-append, CountUp-set, In-set_cases, kept-set}
+use Rattle.wp_plain.specs.Numbers.{CountUp, IsNumbered}
+use Rattle.wp_plain.proofs.NumberLemmas.{number_below, node_there, CountUp-append, CountUp-set, In-set_cases, kept-set}
 
 -- ---- numbers of a range
 pub In-range : (n q : ℕ) → q < n → In q (range_with_len 0 n)
@@ -145,7 +146,7 @@ module _ (task : PlanningTask) (settings : Settings) (all : List Generated) (p :
   children-count number [] = tt
   children-count number (x ∷ xs) = (refl, children-count (number + 1) xs)
 
-  length-children : (number : ℕ) (xs : List Successor) → length (map (node_of settings all) (fresh_of task p.states number xs)) ≡ length xs
+  pub length-children : (number : ℕ) (xs : List Successor) → length (map (node_of settings all) (fresh_of task p.states number xs)) ≡ length xs
   length-children number [] = refl
   length-children number (x ∷ xs) = ap suc (length-children (number + 1) xs)
 
@@ -161,11 +162,6 @@ generated_in-nodes settings all [] = refl
 generated_in-nodes settings all (g ∷ gs) = ap (λ l. g ∷ l) (generated_in-nodes settings all gs)
 
 -- ---- moments
--- each node has a number, and a path by it
-pub record IsNumbered (m : Moment) : Type 0 where
-  pub count : length m.paths ≡ length m.nodes
-  pub numbers : CountUp 0 m.nodes
-
 abbrev pub left : Node → Node
 left node = record node { waits = false }
 

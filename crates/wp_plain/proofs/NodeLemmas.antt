@@ -13,12 +13,7 @@ use Rattle.wp_plain.specs.declared.settings.Settings.{Settings}
 use Rattle.wp_plain.specs.Nodes.{Node, generated_in}
 use Rattle.wp_plain.specs.Pairs.{with_pair, pairs_in}
 use Rattle.wp_plain.specs.Expansion.{with_novelty, node_of}
-use Rattle.wp_plain.specs.Explored.{child_pair, numbered, next_node, with_child, with_children, Lists}
-
--- the children with the next numbers
-abbrev pub all_numbered : ℕ → List Child → List Generated
-all_numbered n [] = []
-all_numbered n (c ∷ cs) = numbered n c ∷ all_numbered (n + 1) cs
+use Rattle.wp_plain.specs.Explored.{child_pair, numbered, all_numbered, next_node, with_child, with_children, Lists}
 
 -- ---- nodes of greater numbers play no part
 not_earlier : (x : Generated) (n : ℕ) (cs : List Child) → x.number ≤ n → filter (is_earlier x) (all_numbered n cs) ≡ []

@@ -3,11 +3,7 @@ use Rattle.std.proofs.Common.{◌≡◌, ◌⊎◌, ℕ, zero, suc, ◌+◌, ◌
 use Rattle.std.proofs.lemmas.Bool.{cond-true, cond-false}
 use Rattle.wp_task.proofs.Members.{In}
 use Rattle.wp_plain.specs.Nodes.{Node}
-
--- the numbers of the nodes are n, n + 1, and so on
-abbrev pub CountUp : ℕ → List Node → Type 0
-CountUp n [] = Unit {0}
-CountUp n (x ∷ xs) = (x.generated.number ≡ n) × CountUp (n + 1) xs
+use Rattle.wp_plain.specs.Numbers.{CountUp}
 
 pub number_from : (n : ℕ) (xs : List Node) → CountUp n xs → (x : Node) → In x xs → n ≤ x.generated.number
 number_from n [] counts x there = absurd there

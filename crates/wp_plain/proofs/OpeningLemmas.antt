@@ -1,5 +1,5 @@
 -- The opening: the root alone.
-use Rattle.std.proofs.Common.{◌≡◌, ◌==◌, ◌&&◌, ℕ, Bool, true, List, [], ◌∷◌, None, cond, refl, sym, ap, ◌∙◌, subst, arith}
+use Rattle.std.proofs.Common.{◌≡◌, ◌==◌, ◌&&◌, ℕ, Bool, true, List, [], ◌∷◌, None, length, cond, refl, sym, ap, ◌∙◌, subst, arith}
 use Rattle.std.proofs.lemmas.Bool.{le-ltb}
 use Rattle.wp_task.specs.declared.track.Mark.{Mark}
 use Rattle.wp_task.specs.Task.{PlanningTask}
@@ -14,7 +14,7 @@ use Rattle.wp_plain.specs.Nodes.{Node, generated_in}
 use Rattle.wp_plain.specs.Pairs.{pairs_in}
 use Rattle.wp_plain.specs.Expansion.{generated_at, root_of}
 use Rattle.wp_plain.specs.Run.{opening}
-use Rattle.wp_plain.specs.Explored.{node_at, way_at, lists_of, Lists, IsReached, AreReached, StandsFor}
+use Rattle.wp_plain.specs.Explored.{node_at, way_at, lists_of, Lists, IsReached, AreReached, Opens}
 use Rattle.wp_plain.proofs.NodeLemmas.{novelty-earlier}
 
 alone : (width : ℕ) (x : Generated) → novelty_of width [] x ≡ novelty_of width (x ∷ []) x
@@ -53,8 +53,8 @@ module _ (task : PlanningTask) (settings : Settings) (counts : MarksCount)
 
   pub opening-stands : (e : Explored) (mark : Mark) (track : List ℕ) → mark ≡ root_mark task → track ≡ relaxed_atoms_of task.acts task.goals task.init →
       e.nodes.items ≡ root_of task settings ∷ [] → e.ways.items ≡ record { back = None; mark = mark } ∷ [] → e.tracks.items ≡ track ∷ [] →
-      e.pairs.items ≡ (mark.g, mark.r) ∷ [] → e.expanded ≡ 0 → e.repeats ≡ 0 → StandsFor task settings e (opening task settings).paths []
-  opening-stands e mark track mark_is track_is nodes ways tracks pairs expanded repeats =
+      e.pairs.items ≡ (mark.g, mark.r) ∷ [] → e.expanded ≡ 0 → e.repeats ≡ 0 → Opens task settings e
+  opening-stands e mark track mark_is track_is nodes ways tracks pairs expanded repeats watchers places told =
       let root : List Node = root_of task settings ∷ [] in
       let kept : Lists = record {
         nodes = root;
@@ -82,4 +82,7 @@ module _ (task : PlanningTask) (settings : Settings) (counts : MarksCount)
         repeats = repeats;
         few = omega (arith, expanded);
         bounded = omega (arith, expanded, repeats);
+        told = told;
+        born = ap length (sym nodes);
+        few_born = omega arith;
       }

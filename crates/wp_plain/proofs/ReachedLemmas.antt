@@ -49,7 +49,7 @@ reached-more task paths more tracks fresh k x way h within = record {
 }
 
 -- ---- one more child
-track-kept : (tracks : List (List ℕ)) (track : ℕ) (t : List ℕ) (fresh : Option (List ℕ)) → track < length tracks → track_at tracks track ≡ t →
+pub track-kept : (tracks : List (List ℕ)) (track : ℕ) (t : List ℕ) (fresh : Option (List ℕ)) → track < length tracks → track_at tracks track ≡ t →
     (track_number (length tracks) track fresh < length (tracks ++ option_to_list fresh))
     × (track_at (tracks ++ option_to_list fresh) (track_number (length tracks) track fresh) ≡ track_after t fresh)
 track-kept tracks track t None within is =

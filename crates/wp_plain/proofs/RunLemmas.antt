@@ -2,6 +2,7 @@
 use Rattle.std.proofs.Common.{◌≡◌, ◌==◌, ℕ, suc, ◌+◌, true, false, List, [], Option, Some, None, length, sym, ap, ◌∙◌}
 use Rattle.wp_task.specs.Task.{PlanningTask}
 use Rattle.wp_watch.specs.declared.event.Event.{Event}
+use Rattle.wp_watch.specs.declared.watch.WatchKind.{WatchKind}
 use Rattle.wp_plain.specs.declared.settings.Settings.{Settings}
 use Rattle.wp_plain.specs.declared.ending.How.{How}
 use Rattle.wp_plain.specs.declared.ending.How.TheVariants.{Found, Budget, Words}
@@ -10,7 +11,7 @@ use Rattle.wp_plain.specs.Nodes.{Node, Path, path_at}
 use Rattle.wp_plain.specs.Pairs.{tuple_count, exceeds}
 use Rattle.wp_plain.specs.Run.{Moment, Outcome, expand, look_at, opening, run, step, run_from}
 use Rattle.wp_plain.specs.Run.Outcome.{Goes, Ends}
-use Rattle.wp_plain.specs.Explored.{moment_of, StandsFor, Steps, StepsFrom}
+use Rattle.wp_plain.specs.Explored.{Watched, moment_of, StandsFor, Steps, StepsFrom}
 
 module _ (task : PlanningTask) (settings : Settings) where
   pub look_at-found : (m : Moment) (node : Node) (plan : List ℕ) → (node.generated.counters.0 == 0) ≡ true → plan ≡ (path_at m.paths node.generated.number).acts →
@@ -32,15 +33,18 @@ module _ (task : PlanningTask) (settings : Settings) where
       ∙ ap (λ b. elim b as (λ _. Outcome) [ true ↦ Ends Budget | false ↦ expand task settings m node ]) spare
 
   -- outcomes that are the same from each moment
-  steps-same : (outcome other : Outcome) (e later : Explored) (how : Option How) → outcome ≡ other → Steps task settings other e later how → Steps task settings outcome e later how
-  steps-same outcome other e later None same went = (went.0, went.1, went.2, same ∙ went.3)
-  steps-same outcome other e later (Some end) same went = (went.0, same ∙ went.1)
+  steps-same : (watchers : List (WatchKind × Option ℕ)) (outcome other : Outcome) (s later : Watched) (how : Option How) → outcome ≡ other →
+      Steps task settings watchers other s later how → Steps task settings watchers outcome s later how
+  steps-same watchers outcome other s later None same went = (went.0, went.1, went.2, same ∙ went.3)
+  steps-same watchers outcome other s later (Some end) same went = (went.0, same ∙ went.1)
 
-  pub steps-from_same : (outcome other : Moment → Outcome) (e later : Explored) (how : Option How) →
-      ((paths : List Path) (events : List Event) → StandsFor task settings e paths events → outcome (moment_of e paths events) ≡ other (moment_of e paths events)) →
-      StepsFrom task settings other e later how → StepsFrom task settings outcome e later how
-  steps-from_same outcome other e later how same went = λ paths events stands.
-      steps-same (outcome (moment_of e paths events)) (other (moment_of e paths events)) e later how (same paths events stands) (went paths events stands)
+  pub steps-from_same : (outcome other : Moment → Outcome) (s later : Watched) (how : Option How) →
+      ((watchers : List (WatchKind × Option ℕ)) (paths : List Path) (events : List Event) → StandsFor task settings watchers s paths events →
+      outcome (moment_of s.explored paths events) ≡ other (moment_of s.explored paths events)) →
+      StepsFrom task settings other s later how → StepsFrom task settings outcome s later how
+  steps-from_same outcome other s later how same went = λ watchers paths events stands.
+      steps-same watchers (outcome (moment_of s.explored paths events)) (other (moment_of s.explored paths events)) s later how
+      (same watchers paths events stands) (went watchers paths events stands)
 
   -- one step more
   pub run_from-goes : (steps : ℕ) (m next : Moment) → step task settings m ≡ Goes next → run_from task settings (suc steps) m ≡ run_from task settings steps next
@@ -58,3 +62,12 @@ module _ (task : PlanningTask) (settings : Settings) where
         | false ↦ run_from task settings (settings.budget + 1) (opening task settings)
       ]) few
       ∙ λ j. run_from task settings (settings.budget + 1) (let m : Moment = record { nodes = sym nodes j; paths = (opening task settings).paths; events = [] } in m)
+
+  pub run-words : (e : Explored) → exceeds settings.words 1 (tuple_count settings.width task.atoms) ≡ true → e.nodes.items ≡ (opening task settings).nodes →
+      run task settings ≡ (Words 1, moment_of e (opening task settings).paths [])
+  run-words e many nodes =
+      ap (λ b. elim b as (λ _. How × Moment) [
+        | true ↦ (Words 1, opening task settings)
+        | false ↦ run_from task settings (settings.budget + 1) (opening task settings)
+      ]) many
+      ∙ λ j. (Words 1, (let m : Moment = record { nodes = sym nodes j; paths = (opening task settings).paths; events = [] } in m))

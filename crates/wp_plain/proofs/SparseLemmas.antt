@@ -15,7 +15,8 @@ use Rattle.wp_plain.specs.Expansion.{generated_at, keeps}
 use Rattle.wp_plain.specs.Run.{Moment, opening, run}
 use Rattle.wp_plain.specs.Laws.{KeptAreFirst}
 use Rattle.wp_plain.proofs.StepCases.{all_at, children_at, fresh_at}
-use Rattle.wp_plain.proofs.NumberLemmas.{CountUp, number_from, number_below, one_node}
+use Rattle.wp_plain.specs.Numbers.{CountUp}
+use Rattle.wp_plain.proofs.NumberLemmas.{number_from, number_below, one_node}
 use Rattle.wp_plain.proofs.NextNodes.{IsNext, next, next_cases, generated-next}
 use Rattle.wp_plain.proofs.NextNodes.IsNext.{expanded_one, older, child}
 use Rattle.wp_plain.proofs.TraceLemmas.{Keeps, ended, traced-next}

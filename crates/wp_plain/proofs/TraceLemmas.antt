@@ -15,8 +15,9 @@ use Rattle.wp_plain.specs.declared.ending.How.{How}
 use Rattle.wp_plain.specs.Nodes.{Node, Path, path_at, extended, states_kept}
 use Rattle.wp_plain.specs.Expansion.{root_of, successors_of}
 use Rattle.wp_plain.specs.Run.{Moment, opening, run}
+use Rattle.wp_plain.specs.Numbers.{IsNumbered}
 use Rattle.wp_plain.proofs.StepCases.{first_there, fresh_at, all_at, IsEnd, IsExpansion, at_run}
-use Rattle.wp_plain.proofs.NextNodes.{IsChild, IsNext, IsNumbered, left, next, next_cases, numbered-next, path-child, path-older, successor_by, unseen-sub}
+use Rattle.wp_plain.proofs.NextNodes.{IsChild, IsNext, left, next, next_cases, numbered-next, path-child, path-older, successor_by, unseen-sub}
 use Rattle.wp_plain.proofs.NextNodes.IsNext.{expanded_one, older, child}
 
 -- ---- one action more

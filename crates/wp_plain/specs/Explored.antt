@@ -1,6 +1,6 @@
--- What the plain search keeps, and the moments that it stands for: the moment's nodes are kept as they are, and a link
--- to its parent stands for each path.
-use Rattle.std.specs.Prelude.{◌≡◌, ◌+◌, ◌*◌, ◌<◌, ◌≤◌, ℕ, Bool, false, List, [], ◌∷◌, ◌++◌, length, fold, slice_index_or, slice_set, Option, Some, None, IfSome, MatchOption}
+-- What the plain search keeps, and the moments that it stands for: the moment's nodes are kept as they are, a link to its
+-- parent stands for each path, and where the watchers stand for the events.
+use Rattle.std.specs.Prelude.{◌≡◌, ◌+◌, ◌*◌, ◌<◌, ◌≤◌, ℕ, Bool, false, List, [], ◌∷◌, ◌++◌, length, drop, fold, slice_index_or, slice_set, Option, Some, None, IfSome, MatchOption}
 use Rattle.std.specs.List.{sum_by}
 use Rattle.std.specs.Option.{option_to_list}
 use Rattle.wp_task.specs.Task.{PlanningTask}
@@ -8,7 +8,11 @@ use Rattle.wp_task.specs.Novelty.{Generated}
 use Rattle.wp_count.specs.declared.brood.Child.{Child}
 use Rattle.wp_count.specs.Broods.{children_of}
 use Rattle.wp_count.specs.Laws.{IsMarked, mark_of}
+use Rattle.wp_watch.specs.declared.event.Born.{Born}
 use Rattle.wp_watch.specs.declared.event.Event.{Event}
+use Rattle.wp_watch.specs.declared.watch.WatchKind.{WatchKind}
+use Rattle.wp_watch.specs.Sums.{born_in}
+use Rattle.wp_watch.specs.Places.{Place, AreAfter}
 use Rattle.wp_plain.specs.declared.settings.Settings.{Settings}
 use Rattle.wp_plain.specs.declared.ending.Counts.{Counts}
 use Rattle.wp_plain.specs.declared.ending.How.{How}
@@ -17,8 +21,8 @@ use Rattle.wp_plain.specs.declared.explored.Way.{Way}
 use Rattle.wp_plain.specs.declared.explored.Explored.{Explored}
 use Rattle.wp_plain.specs.Nodes.{Node, Path, Successor, path_at, extended, generated_in}
 use Rattle.wp_plain.specs.Pairs.{pairs_in}
-use Rattle.wp_plain.specs.Expansion.{node_of}
-use Rattle.wp_plain.specs.Run.{Moment, Outcome, counts_of, run_from}
+use Rattle.wp_plain.specs.Expansion.{node_of, born_of, event_of}
+use Rattle.wp_plain.specs.Run.{Moment, Outcome, counts_of, opening, run, run_from}
 use Rattle.wp_plain.specs.Run.Outcome.{Goes, Ends}
 
 -- past the end of a list
@@ -87,6 +91,11 @@ child_pair c = (c.g, c.r)
 abbrev pub numbered : ℕ → Child → Generated
 numbered number c = record { number = number; counters = (c.g, c.r); state = c.state }
 
+-- the children with the next numbers
+abbrev pub all_numbered : ℕ → List Child → List Generated
+all_numbered n [] = []
+all_numbered n (c ∷ cs) = numbered n c ∷ all_numbered (n + 1) cs
+
 abbrev pub next_node : Settings → List Node → Child → Node
 next_node settings nodes c = node_of settings (generated_in nodes) (numbered (length nodes) c)
 
@@ -116,53 +125,103 @@ with_children settings parent track lists children = fold (with_child settings p
 abbrev pub without_waiting : ℕ → Lists → Lists
 without_waiting place lists = record lists { nodes = slice_set lists.nodes place (record (node_at lists.nodes place) { waits = false }) }
 
+-- the lists after an expansion of the node at a place
+abbrev pub expanded_at : Settings → ℕ → Lists → List Child → Lists
+expanded_at settings place lists children = with_children settings place (way_at lists.ways place).mark.track (without_waiting place lists) children
+
 -- the children of the node at a place
 abbrev pub brood_at : PlanningTask → Lists → ℕ → List Child
 brood_at task lists place = children_of task (node_at lists.nodes place).generated.state (way_at lists.ways place).mark
     (track_at lists.tracks (way_at lists.ways place).mark.track)
 
+-- ---- events
+-- the action that led to a node; none led to the root
+abbrev pub act_of : Option Link → ℕ
+act_of None = 0
+act_of (Some link) = link.act
+
+-- what is told of a node that was reached so
+abbrev pub born_by : Node → Way → Born
+born_by node way = born_of (record { act = act_of way.back; state = node.generated.state }) node
+
+abbrev pub borns_by : List Node → List Way → List Born
+borns_by [] ways = []
+borns_by (node ∷ nodes) [] = []
+borns_by (node ∷ nodes) (way ∷ ways) = born_by node way ∷ borns_by nodes ways
+
+-- the event of the node at a place, whose children are the nodes from `first` on
+abbrev pub event_at : Lists → ℕ → ℕ → ℕ → Event
+event_at lists place repeats first =
+    event_of (node_at lists.nodes place) repeats (borns_by (drop first lists.nodes) (drop first lists.ways))
+
 -- ---- moments
+-- a search, and where its watchers stand
+pub record Watched : Type 0 where
+  pub explored : Explored
+  pub places : List Place
+
+abbrev pub watched : Explored → List Place → Watched
+watched e places = record { explored = e; places = places }
+
 abbrev pub moment_of : Explored → List Path → List Event → Moment
 moment_of e paths events = record { nodes = e.nodes.items; paths = paths; events = events }
 
--- the search stands for the moment with these paths and events
-pub record StandsFor (task : PlanningTask) (settings : Settings) (e : Explored) (paths : List Path) (events : List Event) : Type 0 where
-  pub reached : AreReached task paths (lists_of e)
-  pub pairs : e.pairs.items ≡ pairs_in (generated_in e.nodes.items)
-  pub expanded : e.expanded ≡ length events
-  pub repeats : e.repeats ≡ sum_by (λ event. event.repeats) events
-  pub few : e.expanded ≤ settings.budget
-  pub bounded : e.repeats ≤ 1048576 * e.expanded
+-- the search stands for the moment with these paths and events, which were told to these watchers
+pub record StandsFor (task : PlanningTask) (settings : Settings) (watchers : List (WatchKind × Option ℕ)) (s : Watched) (paths : List Path) (events : List Event) : Type 0 where
+  pub reached : AreReached task paths (lists_of s.explored)
+  pub pairs : s.explored.pairs.items ≡ pairs_in (generated_in s.explored.nodes.items)
+  pub expanded : s.explored.expanded ≡ length events
+  pub repeats : s.explored.repeats ≡ sum_by (λ event. event.repeats) events
+  pub few : s.explored.expanded ≤ settings.budget
+  pub bounded : s.explored.repeats ≤ 1048576 * s.explored.expanded
+  pub told : AreAfter watchers events s.places
+  pub born : born_in events + 1 ≡ length s.explored.nodes.items
+  pub few_born : born_in events ≤ 1048576 * s.explored.expanded
 
 -- the search stands for some moment
-abbrev pub StandsForSome : PlanningTask → Settings → Explored → Type 0
-StandsForSome task settings e = (paths : List Path) × (events : List Event) × StandsFor task settings e paths events
+abbrev pub StandsForSome : PlanningTask → Settings → Watched → Type 0
+StandsForSome task settings s = (watchers : List (WatchKind × Option ℕ)) × (paths : List Path) × (events : List Event)
+    × StandsFor task settings watchers s paths events
+
+-- it stands for the opening, whoever the watchers are that were told nothing
+abbrev pub Opens : PlanningTask → Settings → Explored → Type 0
+Opens task settings e = (watchers : List (WatchKind × Option ℕ)) (places : List Place) → AreAfter watchers [] places →
+    StandsFor task settings watchers (watched e places) (opening task settings).paths []
 
 -- a step from there: it goes on to a moment that the search then stands for, or it ends and changes nothing
-abbrev pub Steps : PlanningTask → Settings → Outcome → Explored → Explored → Option How → Type 0
-Steps task settings outcome e later how = MatchOption how
-    ((paths : List Path) × (events : List Event) × StandsFor task settings later paths events × (outcome ≡ Goes (moment_of later paths events)))
-    (λ end. (later ≡ e) × (outcome ≡ Ends end))
+abbrev pub Steps : PlanningTask → Settings → List (WatchKind × Option ℕ) → Outcome → Watched → Watched → Option How → Type 0
+Steps task settings watchers outcome s later how = MatchOption how
+    ((paths : List Path) × (events : List Event) × StandsFor task settings watchers later paths events
+    × (outcome ≡ Goes (moment_of later.explored paths events)))
+    (λ end. (later ≡ s) × (outcome ≡ Ends end))
 
 -- the same, from each moment that the search stands for
-abbrev pub StepsFrom : PlanningTask → Settings → (Moment → Outcome) → Explored → Explored → Option How → Type 0
-StepsFrom task settings outcome e later how = (paths : List Path) (events : List Event) →
-    StandsFor task settings e paths events → Steps task settings (outcome (moment_of e paths events)) e later how
+abbrev pub StepsFrom : PlanningTask → Settings → (Moment → Outcome) → Watched → Watched → Option How → Type 0
+StepsFrom task settings outcome s later how = (watchers : List (WatchKind × Option ℕ)) (paths : List Path) (events : List Event) →
+    StandsFor task settings watchers s paths events →
+    Steps task settings watchers (outcome (moment_of s.explored paths events)) s later how
 
 -- a run ends so, at a moment that the search then stands for
-abbrev pub EndsAs : PlanningTask → Settings → How × Moment → Explored → How → Type 0
-EndsAs task settings end later how = (paths : List Path) × (events : List Event)
-    × StandsFor task settings later paths events × (end ≡ (how, moment_of later paths events))
+abbrev pub EndsAs : PlanningTask → Settings → List (WatchKind × Option ℕ) → How × Moment → Watched → How → Type 0
+EndsAs task settings watchers end later how = (paths : List Path) × (events : List Event)
+    × StandsFor task settings watchers later paths events × (end ≡ (how, moment_of later.explored paths events))
 
 -- all the steps from each moment that the search stands for
-abbrev pub RunsFrom : PlanningTask → Settings → Explored → Explored → How → Type 0
-RunsFrom task settings e later how = (paths : List Path) (events : List Event) → StandsFor task settings e paths events →
-    EndsAs task settings (run_from task settings (settings.budget + 1) (moment_of e paths events)) later how
+abbrev pub RunsFrom : PlanningTask → Settings → Watched → Watched → How → Type 0
+RunsFrom task settings s later how = (watchers : List (WatchKind × Option ℕ)) (paths : List Path) (events : List Event) →
+    StandsFor task settings watchers s paths events →
+    EndsAs task settings watchers (run_from task settings (settings.budget + 1) (moment_of s.explored paths events)) later how
+
+-- the whole run, told to whoever the watchers are that were told nothing
+abbrev pub RunsWhole : PlanningTask → Settings → List Place → Watched → How → Type 0
+RunsWhole task settings places later how = (watchers : List (WatchKind × Option ℕ)) → AreAfter watchers [] places →
+    EndsAs task settings watchers (run task settings) later how
 
 -- the counts are those of each moment that the search stands for
 abbrev pub AreCountsOf : Explored → Counts → Type 0
-AreCountsOf e counts = (task : PlanningTask) (settings : Settings) (paths : List Path) (events : List Event) →
-    StandsFor task settings e paths events → counts ≡ counts_of (moment_of e paths events)
+AreCountsOf e counts = (task : PlanningTask) (settings : Settings) (watchers : List (WatchKind × Option ℕ)) (places : List Place)
+    (paths : List Path) (events : List Event) →
+    StandsFor task settings watchers (watched e places) paths events → counts ≡ counts_of (moment_of e paths events)
 
 -- the actions are those of the path to the place
 abbrev pub AreActsTo : Explored → ℕ → List ℕ → Type 0

@@ -8,6 +8,7 @@ use Rattle.wp_task.specs.Task.{PlanningTask, IsTask, IsReachable, act_at, applie
 use Rattle.wp_task.specs.Novelty.{IsNewAt, tuples_in}
 use Rattle.wp_plain.specs.declared.settings.Search.TheVariants.{KBfws, F5}
 use Rattle.wp_plain.specs.declared.settings.Settings.{Settings}
+use Rattle.wp_plain.specs.declared.ending.Ending.{Ending}
 use Rattle.wp_plain.specs.declared.ending.How.TheVariants.{Found, Emptied, Budget, Words}
 use Rattle.wp_plain.specs.Nodes.{Node, generated_in, states_kept}
 use Rattle.wp_plain.specs.Pairs.{tuple_count}
@@ -95,3 +96,23 @@ LimitsAreEnough = (task : PlanningTask) (settings : Settings) (states : List (Li
     ((state : List Bool) → IsReachable task state → Contains states state) → length states ≤ settings.budget →
     (length task.goals + 1) * (task.atoms + 1) * tuple_count settings.width task.atoms ≤ settings.words →
     ((plan : List ℕ) × ((ending_of task settings).how ≡ Found plan)) ⊎ ((ending_of task settings).how ≡ Emptied)
+
+-- ---- all of it
+-- what an ending says of its task
+pub record AnswersFor (task : PlanningTask) (settings : Settings) (ending : Ending) : Type 0 where
+  -- what is found is a plan
+  pub found : (plan : List ℕ) → ending.how ≡ Found plan → is_plan task plan ≡ true
+  -- there is none where BFWS(f5) is left with no node that waits
+  pub none : settings.search ≡ F5 → ending.how ≡ Emptied → (plan : List ℕ) → is_plan task plan ≡ false
+  -- k-BFWS expands at most the root, and a node for each pair of counters and each tuple
+  pub few : settings.search ≡ KBfws →
+      ending.counts.expanded ≤ 1 + ending.counts.pairs * tuple_count settings.width task.atoms
+  pub pairs : ending.counts.pairs ≤ (length task.goals + 1) * (task.atoms + 1)
+  -- a budget above that bound is not spent
+  pub unspent : settings.search ≡ KBfws →
+      1 + ending.counts.pairs * tuple_count settings.width task.atoms ≤ settings.budget → ending.how ≡ Budget → ⊥
+  -- BFWS(f5) is decided by a budget for all reachable states and words for all pairs
+  pub decided : (states : List (List Bool)) → settings.search ≡ F5 →
+      ((state : List Bool) → IsReachable task state → Contains states state) → length states ≤ settings.budget →
+      (length task.goals + 1) * (task.atoms + 1) * tuple_count settings.width task.atoms ≤ settings.words →
+      ((plan : List ℕ) × (ending.how ≡ Found plan)) ⊎ (ending.how ≡ Emptied)

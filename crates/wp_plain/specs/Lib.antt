@@ -2,6 +2,8 @@ pub mod Nodes
 pub mod Pairs
 pub mod Expansion
 pub mod Run
+pub mod Numbers
 pub mod Ranges
+pub mod Places
 pub mod Explored
 pub mod Laws

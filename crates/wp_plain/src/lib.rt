@@ -18,6 +18,7 @@ mod paths;
 mod repeats;
 pub mod search;
 pub mod settings;
+mod telling;
 
 pub use ending::{Counts, Ending, How};
 pub use first::first_is_least;
@@ -25,6 +26,6 @@ pub use laws::{
     emptied_has_no_plan, expansions_are_few, found_is_plan, limits_are_enough, limits_are_reached,
     tuples_are_counted,
 };
-pub use pairs::tuple_count;
+pub use pairs::{exceeds, tuple_count};
 pub use search::plain_search;
-pub use settings::{Search, Settings, workers_play_no_part};
+pub use settings::{Search, Settings, keeps, workers_play_no_part};

@@ -6,9 +6,11 @@ ghost use Rattle.std.specs.Cmp.Lexicographic.{pointwise};
 ghost use Rattle.wp_task.specs.Set.{has};
 ghost use Rattle.wp_task.specs.Novelty.{is_earlier};
 ghost use Rattle.wp_plain.specs.Nodes.{comes_before};
+ghost use Rattle.wp_plain.specs.Expansion.{born_of, event_of};
 
 use std::marker::Model;
 use wp_task::State;
+use wp_watch::{Born, Borns, Event};
 
 /// A generated node: its number, its counters #g and #r, and its state.
 #[derive(Drop)]
@@ -137,6 +139,34 @@ impl SearchNode {
                 && (self.generated.g < other.generated.g
                     || self.generated.g == other.generated.g
                         && self.generated.number < other.generated.number)
+    }
+
+    /// What is told of its expansion.
+    pub(crate) fn event(&self, repeats: u64, born: Borns) -> Event
+        ensures { result ≡ event_of self.now repeats born }
+    {
+        Event {
+            number: self.generated.number,
+            w: self.w,
+            g: self.generated.g,
+            r: self.generated.r,
+            repeats,
+            born,
+        }
+    }
+
+    /// What is told of it where this action led to it.
+    pub(crate) fn born(&self, act: u32) -> Born
+        ensures { result ≡ born_of (record { act = act; state = self.now.generated.state }) self.now }
+    {
+        Born {
+            number: self.generated.number,
+            act,
+            w: self.w,
+            g: self.generated.g,
+            r: self.generated.r,
+            kept: self.kept,
+        }
     }
 
     /// It waits no longer.

@@ -52,7 +52,7 @@ pub fn tuple_count(width: u8, atoms: u32) -> u64
 }
 
 /// Whether so many pairs want more words than the limit.
-pub(crate) fn exceeds(words: u64, pairs: u64, tuples: u64) -> bool
+pub fn exceeds(words: u64, pairs: u64, tuples: u64) -> bool
     ensures { result ≡ exceeds words pairs tuples }
 {
     u128::from(words) < u128::from(pairs) * u128::from(tuples)

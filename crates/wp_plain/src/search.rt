@@ -3,11 +3,16 @@
 //! Each step scans all nodes for the first that waits, for the state of each child and for each tuple of its atoms, so a
 //! search takes time quadratic in its nodes and worse. It is meant for small tasks and for comparison: what is faster
 //! has to end as this does.
-ghost use Rattle.std.specs.Prelude.{◌≡◌, ◌<◌, ◌≤◌, [], length, List, Some, IfOk};
+ghost use Rattle.std.specs.Prelude.{◌≡◌, ◌<◌, ◌≤◌, [], ℕ, length, List, Option, Some, IfOk, OnOk};
 ghost use Rattle.wp_plain.specs.Nodes.{Path};
 ghost use Rattle.wp_plain.specs.Run.{opening, expand, look_at, step, run, ending_of};
+ghost use Rattle.wp_task.specs.Task.{IsTask};
+ghost use Rattle.wp_watch.specs.declared.watch.WatchKind.{WatchKind};
+ghost use Rattle.wp_watch.specs.Places.{AreAfter, AreUntold};
+ghost use Rattle.wp_plain.specs.Places.{places_in};
 ghost use Rattle.wp_plain.specs.Ranges.{AreInRange};
-ghost use Rattle.wp_plain.specs.Explored.{node_at, brood_at, lists_of, AreReached, StandsFor, StandsForSome, StepsFrom, EndsAs, RunsFrom, AreCountsOf};
+ghost use Rattle.wp_plain.specs.Laws.{AnswersFor};
+ghost use Rattle.wp_plain.specs.Explored.{node_at, brood_at, lists_of, watched, AreReached, Opens, StandsForSome, StepsFrom, RunsWhole, RunsFrom, AreCountsOf};
 
 use crate::ending::{Counts, Ending, How};
 use crate::explored::{Explored, Way, commit};
@@ -22,14 +27,26 @@ use std::alloc::{AllocError, Global};
 use wp_count::{Child, brood_of, counters_are_carried, root_of};
 use wp_succ::Plain;
 use wp_task::Task;
+use wp_watch::{Watchers, places_follow};
 
-/// The search of a task, to its ending.
-pub fn plain_search(alloc: Global, task: &Task, settings: &Settings) -> Result<Ending, AllocError>
+/// The search of a task, to its ending, with each expansion told. Want of memory leaves watchers that are only good for
+/// being dropped.
+pub fn plain_search(
+    alloc: Global,
+    task: &Task,
+    settings: &Settings,
+    watchers: &mut Watchers,
+) -> Result<Ending, AllocError>
     requires range { AreInRange settings.now }
+    requires untold { AreUntold (places_in kind until told watchers.old) }
     ensures ending { IfOk result (λ ending. ending ≡ ending_of task.now settings.now) }
+    ensures answers { IfOk result (AnswersFor task.now settings.now) }
+    ensures events { OnOk result ((list : List (WatchKind × Option ℕ)) →
+        AreAfter list [] (places_in kind until told watchers.old) →
+        AreAfter list (run task.now settings.now).1.events (places_in kind until told watchers.new)) }
 {
     let mut explored = opening(alloc, task, settings)?;
-    let how = run(alloc, &mut explored, task, settings)?;
+    let how = run(alloc, &mut explored, task, settings, watchers)?;
     Ok(Ending {
         how,
         counts: counts_of(&explored),
@@ -40,7 +57,7 @@ pub fn plain_search(alloc: Global, task: &Task, settings: &Settings) -> Result<E
 fn opening(alloc: Global, task: &Task, settings: &Settings) -> Result<Explored, AllocError>
     requires { (1 ≤ settings.now.width) × (settings.now.width ≤ 2) }
     ensures nodes { IfOk result (λ explored. explored.nodes.items ≡ (opening task.now settings.now).nodes) }
-    ensures stands { IfOk result (λ explored. StandsFor task.now settings.now explored (opening task.now settings.now).paths []) }
+    ensures stands { IfOk result (Opens task.now settings.now) }
 {
     // The law of the counters: what is kept of a node gives those of its whole path.
     counters_are_carried();
@@ -71,16 +88,19 @@ fn run(
     explored: &mut Explored,
     task: &Task,
     settings: &Settings,
+    watchers: &mut Watchers,
 ) -> Result<How, AllocError>
     requires range { AreInRange settings.now }
     requires nodes { explored.old.nodes.items ≡ (opening task.now settings.now).nodes }
-    requires stands { StandsFor task.now settings.now explored.old (opening task.now settings.now).paths [] }
-    ensures { IfOk result (λ how. EndsAs task.now settings.now (run task.now settings.now) explored.new how) }
+    requires opens { Opens task.now settings.now explored.old }
+    requires untold { AreUntold (places_in kind until told watchers.old) }
+    ensures ends { IfOk result (RunsWhole task.now settings.now (places_in kind until told watchers.old) (watched explored.new (places_in kind until told watchers.new))) }
+    ensures fits { IsTask task.now }
 {
     if exceeds(settings.words, 1, tuple_count(settings.width, task.atoms())) {
         return Ok(How::Words { pairs: 1 });
     }
-    take_steps(alloc, explored, task, settings)
+    take_steps(alloc, explored, task, settings, watchers)
 }
 
 /// Steps until one ends, which is at the latest the one after the budget.
@@ -89,13 +109,14 @@ fn take_steps(
     explored: &mut Explored,
     task: &Task,
     settings: &Settings,
+    watchers: &mut Watchers,
 ) -> Result<How, AllocError>
     requires range { AreInRange settings.now }
-    requires stands { StandsForSome task.now settings.now explored.old }
-    ensures { IfOk result (λ how. RunsFrom task.now settings.now explored.old explored.new how) }
+    requires stands { StandsForSome task.now settings.now (watched explored.old (places_in kind until told watchers.old)) }
+    ensures { IfOk result (RunsFrom task.now settings.now (watched explored.old (places_in kind until told watchers.old)) (watched explored.new (places_in kind until told watchers.new))) }
 {
     for _step in 0..settings.budget + 1 {
-        if let Some(how) = step(alloc, explored, task, settings)? {
+        if let Some(how) = step(alloc, explored, task, settings, watchers)? {
             return Ok(how);
         }
     }
@@ -108,13 +129,14 @@ fn step(
     explored: &mut Explored,
     task: &Task,
     settings: &Settings,
+    watchers: &mut Watchers,
 ) -> Result<Option<How>, AllocError>
     requires range { AreInRange settings.now }
-    requires stands { StandsForSome task.now settings.now explored.old }
-    ensures { IfOk result (λ how. StepsFrom task.now settings.now (step task.now settings.now) explored.old explored.new how) }
+    requires stands { StandsForSome task.now settings.now (watched explored.old (places_in kind until told watchers.old)) }
+    ensures { IfOk result (StepsFrom task.now settings.now (step task.now settings.now) (watched explored.old (places_in kind until told watchers.old)) (watched explored.new (places_in kind until told watchers.new))) }
 {
     match first_waiting(&explored.nodes) {
-        Some(place) => look_at(alloc, explored, task, settings, place),
+        Some(place) => look_at(alloc, explored, task, settings, place, watchers),
         None => Ok(Some(How::Emptied)),
     }
 }
@@ -127,11 +149,12 @@ fn look_at(
     task: &Task,
     settings: &Settings,
     place: usize,
+    watchers: &mut Watchers,
 ) -> Result<Option<How>, AllocError>
     requires range { AreInRange settings.now }
     requires place { place < length explored.old.nodes.items }
-    requires stands { StandsForSome task.now settings.now explored.old }
-    ensures { IfOk result (λ how. StepsFrom task.now settings.now (λ m. look_at task.now settings.now m (Some (node_at m.nodes place))) explored.old explored.new how) }
+    requires stands { StandsForSome task.now settings.now (watched explored.old (places_in kind until told watchers.old)) }
+    ensures { IfOk result (StepsFrom task.now settings.now (λ m. look_at task.now settings.now m (Some (node_at m.nodes place))) (watched explored.old (places_in kind until told watchers.old)) (watched explored.new (places_in kind until told watchers.new))) }
 {
     if explored.nodes[place].has_goals() {
         let plan = plan_to(alloc, explored, place)?;
@@ -140,7 +163,7 @@ fn look_at(
     if explored.expanded == settings.budget {
         return Ok(Some(How::Budget));
     }
-    expand(alloc, explored, task, settings, place)
+    expand(alloc, explored, task, settings, place, watchers)
 }
 
 /// The expansion of the node at a place, unless it wants more words than the limit.
@@ -150,15 +173,18 @@ fn expand(
     task: &Task,
     settings: &Settings,
     place: usize,
+    watchers: &mut Watchers,
 ) -> Result<Option<How>, AllocError>
     requires range { AreInRange settings.now }
     requires place { place < length explored.old.nodes.items }
     requires spare { explored.old.expanded < settings.now.budget }
-    requires stands { StandsForSome task.now settings.now explored.old }
-    ensures { IfOk result (λ how. StepsFrom task.now settings.now (λ m. expand task.now settings.now m (node_at m.nodes place)) explored.old explored.new how) }
+    requires stands { StandsForSome task.now settings.now (watched explored.old (places_in kind until told watchers.old)) }
+    ensures { IfOk result (StepsFrom task.now settings.now (λ m. expand task.now settings.now m (node_at m.nodes place)) (watched explored.old (places_in kind until told watchers.old)) (watched explored.new (places_in kind until told watchers.new))) }
 {
-    // By the law of the counters those of the children are those of their whole paths.
+    // By the law of the counters those of the children are those of their whole paths; by the law of places the watchers
+    // can be told one more event.
     counters_are_carried();
+    places_follow();
     let brood = brood_at(alloc, explored, task, place)?;
     let count = brood.len();
     let fresh = unseen(alloc, &explored.nodes, brood)?;
@@ -170,7 +196,7 @@ fn expand(
         return Ok(Some(How::Words { pairs: needed }));
     }
     explored.pairs = pairs;
-    commit(alloc, explored, settings, place, fresh, repeats)?;
+    commit(alloc, explored, settings, place, fresh, repeats, watchers)?;
     Ok(None)
 }
 

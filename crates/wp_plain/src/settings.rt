@@ -1,4 +1,6 @@
 //! What a search is asked for.
+ghost use Rattle.std.specs.Prelude.{◌≡◌};
+ghost use Rattle.wp_plain.specs.Expansion.{keeps};
 ghost use Rattle.wp_plain.specs.Run.{WorkersPlayNoPart};
 
 /// Which nodes are pruned: `KBfws` is k-BFWS, which prunes the nodes of a novelty above its width k and is incomplete;
@@ -27,3 +29,13 @@ pub struct Settings {
 pub fn workers_play_no_part()
     ensures { WorkersPlayNoPart }
 {}
+
+/// Whether a child of this novelty is kept and waits; the root always is.
+pub fn keeps(settings: &Settings, w: u8) -> bool
+    ensures { result ≡ keeps settings.now.search settings.now.width w }
+{
+    match settings.search {
+        Search::F5 => true,
+        Search::KBfws => w <= settings.width,
+    }
+}

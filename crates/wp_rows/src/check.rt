@@ -75,7 +75,15 @@ fn checked<R: Threads + Sync>(
     sink: &mut MemSink,
 ) -> Result<Status, AllocError> {
     let words = words(alloc)?;
-    Ok(run_words(rt, alloc, words.as_slice(), shelf, sink, &OpenGate))
+    Ok(run_words(
+        rt,
+        alloc,
+        words.as_slice(),
+        shelf,
+        sink,
+        &OpenGate,
+        Vec::new(alloc),
+    ))
 }
 
 #[test]

@@ -44,6 +44,7 @@ fn a_plan_is_found_and_printed(rt: HostRuntime) -> Result<(), Fail> {
         &mut shelf,
         &mut sink,
         &OpenGate,
+        Vec::new(alloc),
     );
     assert_eq!(rt; status.code(), 0);
     assert_eq!(rt; sink.held(), PLANNED.as_bytes());
@@ -66,6 +67,7 @@ fn a_cut_plan_is_a_front_of_its_text(rt: HostRuntime) -> Result<(), Fail> {
         &mut shelf,
         &mut sink,
         &OpenGate,
+        Vec::new(alloc),
     );
     assert_eq!(rt; status.code(), 21);
     assert_eq!(rt; sink.held(), b"(s1)\n(s2)\n".as_slice());
@@ -85,6 +87,7 @@ fn a_task_is_printed(rt: HostRuntime) -> Result<(), Fail> {
         &mut shelf,
         &mut sink,
         &OpenGate,
+        Vec::new(alloc),
     );
     assert_eq!(rt; status.code(), 0);
     assert_eq!(rt; sink.held(), TASK.as_bytes());

@@ -1,0 +1,6 @@
+pub mod Sums
+pub mod Texts
+pub mod Places
+pub mod Torn
+pub mod Slots
+pub mod Laws

@@ -8,7 +8,7 @@ pub returns-in_err-grounded-clause-meets : goal.returns-in_err-grounded-clause-m
 unfolding numbered_step
 returns-in_err-grounded-clause-meets c =
     let p = err_from_is_err_and c.from_residual-in_err-grounded.result c.from_residual-in_err-grounded.ensures.1 in
-    rw (p.1, p.2) (meets_next _ c.in_ok-lifted.ensures (meets_stop _ c.in_err-grounded.ensures))
+    rw (p.1, p.2) (meets_next _ c.in_ok-lifted.ensures (meets_stop _ c.in_err-grounded.ensures.meets))
 
 pub returns-in_err-reply_with-clause-meets : goal.returns-in_err-reply_with-clause-meets
 returns-in_err-reply_with-clause-meets c =

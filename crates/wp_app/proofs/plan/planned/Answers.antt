@@ -6,11 +6,11 @@ use Rattle.wp_app.proofs.plan.planned.Goals as goal
 
 pub returns-in_err-grounded-clause-meets : goal.returns-in_err-grounded-clause-meets
 unfolding planned_step
-returns-in_err-grounded-clause-meets c =
+returns-in_err-grounded-clause-meets g c list after =
     let p = err_from_is_err_and c.from_residual-in_err-grounded.result c.from_residual-in_err-grounded.ensures.1 in
-    rw (p.1, p.2) (meets_next _ c.in_ok-lifted.ensures (meets_stop _ c.in_err-grounded.ensures))
+    rw (p.1, p.2) (meets_next _ c.in_ok-lifted.ensures (meets_stop _ c.in_err-grounded.ensures.meets))
 
 pub returns-in_err-searched-clause-meets : goal.returns-in_err-searched-clause-meets
-returns-in_err-searched-clause-meets c =
+returns-in_err-searched-clause-meets g c list after =
     let p = err_from_is_err_and c.from_residual-in_err-searched.result c.from_residual-in_err-searched.ensures.1 in
     rw (p.1, p.2) (meets_memory _)

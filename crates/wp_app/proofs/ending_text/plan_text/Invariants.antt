@@ -1,6 +1,0 @@
-use Rattle.std.proofs.Common.{◌≡◌, ◌++◌, drop}
-use Rattle.wp_app.specs.Endings.{plan_text}
-use Rattle.wp_app.proofs.ending_text.plan_text.Given as goal
-
-abbrev pub invariant-loop-a : goal.invariant-loop-a
-invariant-loop-a l = l.out.items ++ plan_text l.names (drop l.a-index l.a-items) ≡ plan_text l.names l.plan

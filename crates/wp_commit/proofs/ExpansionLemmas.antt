@@ -1,0 +1,433 @@
+-- An expansion by what is kept is the definition's expansion of each moment that the search stands for.
+use Rattle.std.proofs.Common.{◌≡◌, ◌⊎◌, ℕ, ◌+◌, ◌-◌, ◌<◌, ◌≤◌, Bool, true, false, List, [], ◌∷◌, ◌++◌, Option, Some, None, length, map, refl, sym, ap, ◌∙◌, subst, inl, inr, length-append, length-set, arith}
+use Rattle.std.specs.Prelude.{IfSome}
+use Rattle.std.specs.List.{All, Contains, count_by, filter, fold}
+use Rattle.std.specs.Map.{keys_of}
+use Rattle.std.proofs.lemmas.List.{length-map, map-append, get_or-append-add, get_or_append_left}
+use Rattle.std.proofs.lemmas.List.Elements.{All-contains, filter-append}
+use Rattle.std.proofs.lemmas.List.Sums.{count_by-le-length, length-filter, sum_by_push}
+use Rattle.wp_task.specs.Task.{PlanningTask}
+use Rattle.wp_task.specs.Novelty.{Generated}
+use Rattle.wp_task.proofs.Members.{In, In-from_Contains, Contains-from_In}
+use Rattle.wp_count.specs.declared.brood.Child.{Child}
+use Rattle.wp_count.specs.Broods.{children_of}
+use Rattle.wp_count.specs.Laws.{IsEvaluated, IsMarked, ChildrenAreEvaluated, mark_of, track_after}
+use Rattle.wp_watch.specs.declared.event.Event.{Event}
+use Rattle.wp_watch.specs.Sums.{born_in}
+use Rattle.wp_novel.specs.declared.birth.Pair.{Pair}
+use Rattle.wp_novel.specs.NoveltyTables.{NoveltyTables}
+use Rattle.wp_novel.specs.StandsFor.{StandsFor, last_number}
+use Rattle.wp_tuples.specs.TuplePlaces.{Indexed}
+use Rattle.wp_nodes.specs.declared.kept.Back.{Back}
+use Rattle.wp_nodes.specs.declared.kept.Kept.{Kept}
+use Rattle.wp_nodes.specs.KeptNodes.{AreLinked, HasParent, IsKept}
+use Rattle.wp_nodes.specs.Links.{along}
+use Rattle.wp_plain.specs.declared.settings.Settings.{Settings}
+use Rattle.wp_plain.specs.declared.ending.How.TheVariants.{Words}
+use Rattle.wp_plain.specs.Nodes.{Node, Path, no_path, path_at, extended, generated_in, states_kept}
+use Rattle.wp_plain.specs.Pairs.{with_pair, pairs_in, tuple_count, exceeds}
+use Rattle.wp_plain.specs.Expansion.{successors_of, unseen, fresh_of, node_of, borns_of, event_of}
+use Rattle.wp_plain.specs.Run.{Moment, Outcome, expanded, expand}
+use Rattle.wp_plain.specs.Run.Outcome.{Goes, Ends}
+use Rattle.wp_plain.specs.Explored.{bare, child_pair, all_numbered, track_at}
+use Rattle.wp_plain.proofs.StepCases.{fresh_at, children_at, all_at, nodes_at, repeats_at}
+use Rattle.wp_plain.proofs.NumberLemmas.{number_below, kept-set}
+use Rattle.wp_plain.proofs.NextNodes.{left, node-at, generated-next, numbered-next, length-children}
+use Rattle.wp_plain.proofs.Pigeons.{AreApart}
+use Rattle.wp_plain.proofs.LimitLemmas.{unseen-apart, unseen-new}
+use Rattle.wp_plain.proofs.NodeLemmas.{pairs_in-numbered}
+use Rattle.wp_plain.proofs.ChildLemmas.{bare-children, unseen-bare, unseen-few, unseen-all, fresh-numbered}
+use Rattle.wp_commit.specs.declared.newborn.Newborn.{Newborn}
+use Rattle.wp_commit.specs.declared.searched.Searched.{Searched}
+use Rattle.wp_commit.specs.Newborns.{birth_of, counters_of, newborns_of, kept_as, with_newborns, waiting_of, born_as, event_as, AreNew, AreQueued, HasOpenPair, IsCommitted}
+use Rattle.wp_commit.specs.Searched.{shown_kept, shown, plans_in, IsOnPath, AreCounted, AreWaiting, HoldsAt, IsTakenAt, StandsAt, without}
+use Rattle.wp_commit.proofs.ConditionLemmas.{all-from, children-open, last-below, length-numbered, newborns-new, pairs-few}
+use Rattle.wp_commit.proofs.WaitingLemmas.{waiting-later}
+use Rattle.wp_commit.proofs.TellingLemmas.{event-told}
+use Rattle.wp_commit.proofs.TakeLemmas.{node_for, kept_is}
+use Rattle.wp_commit.proofs.NewbornLemmas.{shown_newborn, stays, shown-kept, shown-nodes, kept-cases, tracks-stay, IsKeptNewborn, length-newborns, newborn-at}
+
+map-twice : {X Y Z : Type 0} (f : X → Y) (h : Y → Z) (g : X → Z) → ((x : X) → h (f x) ≡ g x) → (xs : List X) → map h (map f xs) ≡ map g xs
+map-twice f h g same [] = refl
+map-twice f h g same (x ∷ xs) = λ j. same x j ∷ map-twice f h g same xs j
+
+-- ---- the definition's expansion, by its test
+module _ (task : PlanningTask) (settings : Settings) (m : Moment) (node : Node) where
+  abbrev pub after : Moment
+  after = expanded m node (repeats_at task m node) (fresh_at task m node) (nodes_at task settings m node)
+
+  abbrev tested : Bool → Outcome
+  tested b = elim b as (λ _. Outcome) [ true ↦ Ends (Words (length (pairs_in (all_at task m node)))) | false ↦ Goes after ]
+
+  pub expand-ends : exceeds settings.words (length (pairs_in (all_at task m node))) (tuple_count settings.width task.atoms) ≡ true →
+      expand task settings m node ≡ Ends (Words (length (pairs_in (all_at task m node))))
+  expand-ends many = ap tested many
+
+  pub expand-goes : exceeds settings.words (length (pairs_in (all_at task m node))) (tuple_count settings.width task.atoms) ≡ false →
+      expand task settings m node ≡ Goes after
+  expand-goes few = ap tested few
+
+-- ---- kept nodes and nodes of the definition
+-- the states of the kept nodes are those of the definition
+pub states-kept : (kept : List Kept) (nodes : List Node) → map shown_kept kept ≡ map shown (filter (λ n. n.kept) nodes) →
+    map (λ k. k.state) kept ≡ states_kept nodes
+states-kept kept nodes same =
+    sym (map-twice shown_kept (λ x. x.0.state) (λ k. k.state) (λ k. refl) kept)
+    ∙ (ap (map (λ x. x.0.state)) same ∙ map-twice shown (λ x. x.0.state) (λ n. n.generated.state) (λ n. refl) (filter (λ n. n.kept) nodes))
+
+pub kept-count : (kept : List Kept) (nodes : List Node) → map shown_kept kept ≡ map shown (filter (λ n. n.kept) nodes) →
+    length kept ≡ count_by (λ n. n.kept) nodes
+kept-count kept nodes same =
+    sym (length-map kept shown_kept)
+    ∙ (ap length same
+    ∙ (length-map (filter (λ (n : Node). n.kept) nodes) shown ∙ length-filter (λ (n : Node). n.kept) nodes))
+
+-- there are no more kept nodes than nodes
+pub kept-few : (kept : List Kept) (nodes : List Node) → map shown_kept kept ≡ map shown (filter (λ n. n.kept) nodes) → length kept ≤ length nodes
+kept-few kept nodes same = omega (arith, kept-count kept nodes same, count_by-le-length (λ (n : Node). n.kept) nodes)
+
+along-more : (paths more : List Path) (back : Option Back) → IfSome back (λ b. b.parent < length paths) →
+    along (plans_in (paths ++ more)) back ≡ along (plans_in paths) back
+along-more paths more None within = refl
+along-more paths more (Some back) within = ap (λ (p : Path). p.acts ++ back.act ∷ []) (get_or_append_left paths more no_path back.parent within)
+
+module _ (task : PlanningTask) (settings : Settings) (s : Searched) (tables : NoveltyTables) (m : Moment) (node : Node) (number : ℕ)
+    (at : IsTakenAt task settings s tables m node number) (linked : AreLinked s.nodes) (k : Kept) (k_there : Contains s.nodes.kept k) (k_named : k.number ≡ number) where
+  node_there : In node m.nodes
+  node_there = In-from_Contains node m.nodes at.there
+
+  abbrev path : Path
+  path = path_at m.paths node.generated.number
+
+  -- the kept node is the one that was taken
+  shown-taken : shown_kept k ≡ shown node
+  shown-taken = kept_is task settings s tables m at.holds node k at.there k_there (k_named ∙ sym at.named)
+
+  number-within : (x : Kept) → In x s.nodes.kept → x.number < length m.nodes
+  number-within x there =
+      let found = node_for task settings s tables m at.holds x (Contains-from_In x s.nodes.kept there) in
+      let below : found.0.generated.number < 0 + length m.nodes =
+      number_below 0 m.nodes at.holds.numbers.numbers found.0 (In-from_Contains found.0 m.nodes found.1) in
+      let same : x.number ≡ found.0.generated.number = ap (λ (x : Generated × ℕ). x.0.number) found.3 in
+      omega arith
+
+  -- ---- its children
+  module _ (law : ChildrenAreEvaluated) (brood fresh : List Child)
+      (brood_is : brood ≡ children_of task k.state k.mark (track_at s.nodes.tracks k.mark.track))
+      (fresh_is : fresh ≡ unseen (λ c. c.state) (map (λ x. x.state) s.nodes.kept) brood) where
+    abbrev track : List ℕ
+    track = track_at s.nodes.tracks k.mark.track
+
+    abbrev n : ℕ
+    n = length m.nodes
+
+    abbrev nums : List Generated
+    nums = all_numbered (length m.nodes) fresh
+
+    abbrev all : List Generated
+    all = generated_in m.nodes ++ all_numbered (length m.nodes) fresh
+
+    pub evaluated : All (IsEvaluated task path.states track) fresh
+    evaluated =
+        let on = at.holds.nodes.on_paths k k_there in
+        let states : k.state ∷ on.before ≡ path.states =
+        sym (ap (λ i. (path_at m.paths i).states) (at.named ∙ sym k_named) ∙ on.states) in
+        subst (All (IsEvaluated task path.states track)) (sym fresh_is)
+        (unseen-all (λ c. c.state) (IsEvaluated task path.states track) (map (λ x. x.state) s.nodes.kept) brood
+        (subst (All (IsEvaluated task path.states track)) (sym brood_is)
+        (subst (λ states. All (IsEvaluated task states track) (children_of task k.state k.mark track)) states
+        (law task k.state on.before k.mark track on.marked))))
+
+    state-is : node.generated.state ≡ k.state
+    state-is = ap (λ (x : Generated × ℕ). x.0.state) (sym shown-taken)
+
+    successors-are : successors_of task.acts node.generated.state ≡ map bare brood
+    successors-are = ap (successors_of task.acts) state-is ∙ (sym (bare-children task k.state k.mark track) ∙ ap (map bare) (sym brood_is))
+
+    pub fresh-are : fresh_at task m node ≡ map bare fresh
+    fresh-are =
+        (λ j. unseen (λ x. x.state) (sym (states-kept s.nodes.kept m.nodes at.holds.nodes.nodes_are) j) (successors-are j))
+        ∙ (unseen-bare (map (λ x. x.state) s.nodes.kept) brood ∙ ap (map bare) (sym fresh_is))
+
+    children-are : children_at task m node ≡ nums
+    children-are = ap (fresh_of task path.states n) fresh-are ∙ sym (fresh-numbered task path.states track n fresh evaluated)
+
+    pub all-are : all_at task m node ≡ all
+    all-are = ap (λ l. generated_in m.nodes ++ l) children-are
+
+    pub nodes-are : nodes_at task settings m node ≡ map (node_of settings all) nums
+    nodes-are = λ j. map (node_of settings (all-are j)) (children-are j)
+
+    repeats-are : repeats_at task m node ≡ length brood - length fresh
+    repeats-are = (λ j. length (successors-are j) - length (fresh-are j)) ∙ (λ j. length-map brood bare j - length-map fresh bare j)
+
+    -- what is told of it
+    pub event-is : (newborns : List Newborn) (repeats : ℕ) → newborns ≡ newborns_of settings.width all n fresh → repeats ≡ length brood - length fresh →
+        event_as settings k repeats newborns ≡ event_of node (repeats_at task m node) (borns_of (fresh_at task m node) (nodes_at task settings m node))
+    event-is newborns repeats newborns_are repeats_is =
+        event-told settings k node repeats n all newborns fresh shown-taken newborns_are
+        ∙ (λ j. event_of node ((repeats_is ∙ sym repeats-are) j) (borns_of (sym fresh-are j) (sym nodes-are j)))
+
+    -- the pairs, with those of the children
+    pub pairs-are : (pairs : List Pair) →
+        map counters_of (keys_of tables.tables ++ pairs) ≡ fold with_pair (map counters_of (keys_of tables.tables)) (map child_pair fresh) →
+        map counters_of (keys_of tables.tables ++ pairs) ≡ pairs_in (all_at task m node)
+    pairs-are pairs pairs_is =
+        pairs_is
+        ∙ (ap (λ ps. fold with_pair ps (map child_pair fresh)) at.holds.words.pairs
+        ∙ (pairs_in-numbered (generated_in m.nodes) n fresh ∙ ap pairs_in (sym all-are)))
+
+    pub needed-is : (pairs : List Pair) →
+        map counters_of (keys_of tables.tables ++ pairs) ≡ fold with_pair (map counters_of (keys_of tables.tables)) (map child_pair fresh) →
+        length tables.tables + length pairs ≡ length (pairs_in (all_at task m node))
+    needed-is pairs pairs_is =
+        (λ j. sym (length-map tables.tables (λ e. e.0)) j + length pairs)
+        ∙ (sym (length-append (keys_of tables.tables) pairs)
+        ∙ (sym (length-map (keys_of tables.tables ++ pairs) counters_of) ∙ ap length (pairs-are pairs pairs_is)))
+
+    -- ---- after it
+    module _ (pairs : List Pair) (words : NoveltyTables) (newborns : List Newborn) (repeats : ℕ) (later : Searched)
+        (pairs_is : map counters_of (keys_of tables.tables ++ pairs) ≡ fold with_pair (map counters_of (keys_of tables.tables)) (map child_pair fresh))
+        (newborns_are : newborns ≡ newborns_of settings.width all n fresh)
+        (repeats_is : repeats ≡ length brood - length fresh)
+        (spare : s.expanded < settings.budget) (small : length brood ≤ 1048576) (tracked : k.mark.track < length s.nodes.tracks)
+        (committed : IsCommitted settings number k.mark.track newborns repeats s later) where
+      abbrev next : Moment
+      next = after task settings m node
+
+      abbrev more : List Path
+      more = map (extended path) (fresh_at task m node)
+
+      length-nodes : length next.nodes ≡ length m.nodes + length fresh
+      length-nodes =
+          length-append (without m.nodes node) (nodes_at task settings m node)
+          ∙ (λ j. length-set m.nodes node.generated.number (left node) j + count j) where
+            count : length (nodes_at task settings m node) ≡ length fresh
+            count =
+                length-children task settings (all_at task m node) path n (fresh_at task m node)
+                ∙ (ap length fresh-are ∙ length-map fresh bare)
+
+      nodes-later : map shown_kept later.nodes.kept ≡ map shown (filter (λ x. x.kept) next.nodes)
+      nodes-later =
+          let earlier = without m.nodes node in
+          let old : map shown (filter (λ x. x.kept) earlier) ≡ map shown (filter (λ x. x.kept) m.nodes) =
+          kept-set shown (λ x. x.kept) m.nodes node.generated.number (left node) node (node-at task settings m node at.holds.numbers node_there node) refl refl in
+          let born : map shown (filter (λ x. x.kept) (nodes_at task settings m node)) ≡ map shown_newborn (filter (stays settings) newborns) =
+          ap (λ l. map shown (filter (λ x. x.kept) l)) nodes-are
+          ∙ (shown-nodes settings all n fresh ∙ ap (λ l. map shown_newborn (filter (stays settings) l)) (sym newborns_are)) in
+          ap (λ l. map shown_kept l.kept) committed.nodes
+          ∙ (shown-kept settings number k.mark.track s.nodes newborns
+          ∙ ((λ j. (at.holds.nodes.nodes_are ∙ sym old) j ++ sym born j)
+          ∙ sym (ap (map shown) (filter-append (λ x. x.kept) earlier (nodes_at task settings m node))
+          ∙ map-append shown (filter (λ x. x.kept) earlier) (filter (λ x. x.kept) (nodes_at task settings m node)))))
+
+      -- ---- paths
+      path-old : (i : ℕ) → i < length m.nodes → path_at next.paths i ≡ path_at m.paths i
+      path-old i within =
+          let count : length m.paths ≡ length m.nodes = at.holds.numbers.count in
+          get_or_append_left m.paths more no_path i (omega arith)
+
+      on-old : (x : Kept) → In x s.nodes.kept → IsOnPath task next.paths later.nodes.tracks x
+      on-old x there =
+          let on = at.holds.nodes.on_paths x (Contains-from_In x s.nodes.kept there) in
+          let count : length m.paths ≡ length m.nodes = at.holds.numbers.count in
+          let here = number-within x there in
+          let same = path-old x.number here in
+          let parent : HasParent s.nodes.kept x = All-contains (HasParent s.nodes.kept) s.nodes.kept x linked.parents (Contains-from_In x s.nodes.kept there) in
+          let on_track : x.mark.track < length s.nodes.tracks =
+          All-contains (λ (y : Kept). y.mark.track < length s.nodes.tracks) s.nodes.kept x linked.tracked (Contains-from_In x s.nodes.kept there) in
+          let tracks : track_at later.nodes.tracks x.mark.track ≡ track_at s.nodes.tracks x.mark.track =
+          ap (λ nodes. track_at nodes.tracks x.mark.track) committed.nodes
+          ∙ tracks-stay settings number k.mark.track s.nodes newborns x.mark.track on_track in
+          record {
+            acts = ap (λ p. p.acts) same ∙ (on.acts ∙ sym (along-more m.paths more x.back (before x.back parent here)));
+            before = on.before;
+            states = ap (λ p. p.states) same ∙ on.states;
+            marked = subst (IsMarked task x.state on.before x.mark) (sym tracks) on.marked;
+          } where
+            before : (back : Option Back) → IfSome back (λ b. (b.parent < x.number) × IsKept s.nodes.kept b.parent) → x.number < length m.nodes →
+                IfSome back (λ b. b.parent < length m.paths)
+            before None parent here = tt
+            before (Some b) parent here =
+                let count : length m.paths ≡ length m.nodes = at.holds.numbers.count in omega (arith, parent.0)
+
+      on-born : (t : ℕ) (x : Newborn) → In x newborns → track_at later.nodes.tracks t ≡ track_after track x.child.fresh →
+          IsOnPath task next.paths later.nodes.tracks (kept_as number t x)
+      on-born t x there on =
+          let count : length m.paths ≡ length m.nodes = at.holds.numbers.count in
+          let born = newborn-at path settings.width all n fresh x (subst (In x) newborns_are there) in
+          let place : x.number ≡ length m.paths + born.place = born.number_is ∙ (λ j. sym count j + born.place) in
+          let here : path_at next.paths x.number ≡ extended path (bare x.child) =
+          (λ j. path_at (m.paths ++ map (extended path) (fresh-are j)) (place j))
+          ∙ (get_or-append-add m.paths (map (extended path) (map bare fresh)) born.place no_path ∙ born.path) in
+          let parent_in : node.generated.number < 0 + length m.nodes = number_below 0 m.nodes at.holds.numbers.numbers node node_there in
+          let parent : path_at next.paths number ≡ path =
+          ap (path_at next.paths) (sym at.named) ∙ path-old node.generated.number (omega arith) in
+          let child = All-contains (IsEvaluated task path.states track) fresh x.child evaluated (Contains-from_In x.child fresh born.there) in
+          record {
+            acts = ap (λ p. p.acts) here ∙ ap (λ (p : Path). p.acts ++ x.child.act ∷ []) (sym parent);
+            before = path.states;
+            states = ap (λ p. p.states) here;
+            marked = subst (IsMarked task x.child.state path.states (mark_of x.child t)) (sym on) (child.marked t);
+          }
+
+      on-later : (x : Kept) → In x later.nodes.kept → IsOnPath task next.paths later.nodes.tracks x
+      on-later x there = by (kept-cases settings number k.mark.track s.nodes newborns tracked x (subst (λ l. In x l.kept) committed.nodes there)) where
+        by : In x s.nodes.kept ⊎ IsKeptNewborn settings number k.mark.track s.nodes.tracks (with_newborns settings number k.mark.track s.nodes newborns).tracks newborns x →
+            IsOnPath task next.paths later.nodes.tracks x
+        by (inl old) = on-old x old
+        by (inr born) =
+            subst (IsOnPath task next.paths later.nodes.tracks) (sym born.is)
+            (on-born born.number born.from born.there (ap (λ nodes. track_at nodes.tracks born.number) committed.nodes ∙ born.on))
+
+      -- ---- counts
+      count-newborns : length newborns ≡ length fresh
+      count-newborns = ap length newborns_are ∙ length-newborns settings.width all n fresh
+
+      few-fresh : length fresh ≤ length brood
+      few-fresh = subst (λ l. length l ≤ length brood) (sym fresh_is) (unseen-few (λ c. c.state) (map (λ x. x.state) s.nodes.kept) brood)
+
+      counts-later : AreCounted settings later next
+      counts-later =
+          let old = at.holds.counts in
+          let event : Event = event_of node (repeats_at task m node) (borns_of (fresh_at task m node) (nodes_at task settings m node)) in
+          let repeats_now : event.repeats ≡ repeats = repeats-are ∙ sym repeats_is in
+          let born_now : length event.born ≡ length newborns =
+          ap (λ (e : Event). length e.born) (sym (event-is newborns repeats newborns_are repeats_is)) ∙ length-map newborns (born_as settings) in
+          let born_then : born_in next.events ≡ born_in m.events + length event.born = sum_by_push (λ (x : Event). length x.born) m.events event in
+          record {
+            numbered = omega (arith, committed.numbered, count-newborns, old.numbered, length-nodes);
+            kept = omega (arith, committed.kept, old.kept);
+            expanded = committed.expanded ∙ (ap (λ i. i + 1) old.expanded ∙ sym (length-append m.events (event ∷ [])));
+            repeats = committed.repeats_are ∙ ((λ j. old.repeats j + sym repeats_now j) ∙ sym (sum_by_push (λ x. x.repeats) m.events event));
+            few = omega (arith, committed.expanded);
+            born = omega (arith, committed.numbered, committed.expanded, count-newborns, few-fresh, old.born);
+            bounded = omega (arith, committed.repeats_are, committed.expanded, repeats_is, old.bounded);
+            births = omega (arith, born_then, born_now, count-newborns, old.births, length-nodes);
+          }
+
+      pub holds-next : StandsFor words (map birth_of all) → keys_of words.tables ≡ keys_of tables.tables ++ pairs →
+          words.index ≡ tables.index → words.limit ≡ tables.limit → HoldsAt task settings later words next
+      holds-next births keys index limit =
+          let generated : generated_in next.nodes ≡ all_at task m node = generated-next task settings m node at.holds.numbers node_there in
+          record {
+            numbers = numbered-next task settings m node at.holds.numbers node_there;
+            nodes = record {
+              nodes_are = nodes-later;
+              on_paths = λ x there. on-later x (In-from_Contains x later.nodes.kept there);
+            };
+            words = record {
+              index = index ∙ at.holds.words.index;
+              limit = limit ∙ at.holds.words.limit;
+              births = subst (λ l. StandsFor words (map birth_of l)) (sym (generated ∙ all-are)) births;
+              pairs = ap (map counters_of) keys ∙ (pairs-are pairs pairs_is ∙ ap pairs_in (sym generated));
+            };
+            counts = counts-later;
+          }
+
+-- ---- an expansion as it is carried out
+-- the children of a kept node are evaluated, the repeats among them are out, and the pairs that are to be opened are listed
+pub record IsEvaluatedAt (task : PlanningTask) (s : Searched) (tables : NoveltyTables) (number : ℕ) (k : Kept) (brood fresh : List Child) (pairs : List Pair) : Type 0 where
+  pub law : ChildrenAreEvaluated
+  pub linked : AreLinked s.nodes
+  pub there : Contains s.nodes.kept k
+  pub named : k.number ≡ number
+  pub tracked : k.mark.track < length s.nodes.tracks
+  pub brood_is : brood ≡ children_of task k.state k.mark (track_at s.nodes.tracks k.mark.track)
+  pub fresh_is : fresh ≡ unseen (λ c. c.state) (map (λ x. x.state) s.nodes.kept) brood
+  pub pairs_is : map counters_of (keys_of tables.tables ++ pairs) ≡ fold with_pair (map counters_of (keys_of tables.tables)) (map child_pair fresh)
+
+module _ (task : PlanningTask) (settings : Settings) (s : Searched) (tables : NoveltyTables) (number : ℕ) (k : Kept) (brood fresh : List Child) (pairs : List Pair)
+    (ev : IsEvaluatedAt task s tables number k brood fresh pairs) (m : Moment) (node : Node) (at : IsTakenAt task settings s tables m node number) where
+  needed-length : length tables.tables + length pairs ≡ length (pairs_in (all_at task m node))
+  needed-length =
+      needed-is task settings s tables m node number at ev.linked k ev.there ev.named ev.law brood fresh ev.brood_is ev.fresh_is pairs ev.pairs_is
+
+  all-at-are : all_at task m node ≡ generated_in m.nodes ++ all_numbered (length m.nodes) fresh
+  all-at-are = all-are task settings s tables m node number at ev.linked k ev.there ev.named ev.law brood fresh ev.brood_is ev.fresh_is
+
+  pub words-end : exceeds settings.words (length tables.tables + length pairs) (tuple_count settings.width task.atoms) ≡ true →
+      expand task settings m node ≡ Ends (Words (length tables.tables + length pairs))
+  words-end many =
+      expand-ends task settings m node (ap (λ i. exceeds settings.words i (tuple_count settings.width task.atoms)) (sym needed-length) ∙ many)
+      ∙ ap (λ (i : ℕ). Ends (Words i)) (sym needed-length)
+
+  pub needed-few : length tables.tables + length pairs ≤ s.numbered + length fresh
+  needed-few =
+      let few : length (pairs_in (all_at task m node)) ≤ length (all_at task m node) = pairs-few (all_at task m node) in
+      let count : length (all_at task m node) ≡ length m.nodes + length fresh =
+      ap length all-at-are
+      ∙ (length-append (generated_in m.nodes) (all_numbered (length m.nodes) fresh)
+      ∙ (λ j. length-map m.nodes (λ x. x.generated) j + length-numbered (length m.nodes) fresh j)) in
+      let numbered_is : s.numbered ≡ length m.nodes = at.holds.counts.numbered in
+      omega (arith, needed-length)
+
+  pub all-open : (entries : List (Pair × List ℕ)) → keys_of entries ≡ keys_of tables.tables ++ pairs → All (HasOpenPair entries) fresh
+  all-open entries keys =
+      children-open entries (generated_in m.nodes) (length m.nodes) fresh
+      (ap (map counters_of) keys
+      ∙ (pairs-are task settings s tables m node number at ev.linked k ev.there ev.named ev.law brood fresh ev.brood_is ev.fresh_is pairs ev.pairs_is
+      ∙ ap pairs_in all-at-are))
+
+  pub sizes-fit : (index : Indexed) → index ≡ tables.index → All (λ c. length c.state ≡ index.atoms) fresh
+  sizes-fit index same =
+      let states = (path_at m.paths node.generated.number).states in
+      let track = track_at s.nodes.tracks k.mark.track in
+      let all = evaluated task settings s tables m node number at ev.linked k ev.there ev.named ev.law brood fresh ev.brood_is ev.fresh_is in
+      all-from (λ (c : Child). length c.state ≡ index.atoms) fresh (λ c there.
+      ((All-contains (IsEvaluated task states track) fresh c all (Contains-from_In c fresh there)).marked 0).size
+      ∙ sym (ap (λ (i : Indexed). i.atoms) (same ∙ at.holds.words.index)))
+
+  pub last-before : (last : Option ℕ) → last ≡ tables.last → IfSome last (λ l. l < s.numbered)
+  last-before last same =
+      subst (λ o. IfSome o (λ l. l < s.numbered)) (sym (same ∙ at.holds.words.births.last))
+      (subst (λ i. IfSome (last_number (map birth_of (generated_in m.nodes))) (λ l. l < i)) (sym at.holds.counts.numbered)
+      (last-below m.nodes at.holds.numbers.numbers))
+
+  newborns-here : (width : ℕ) (newborns : List Newborn) → width ≡ settings.width →
+      newborns ≡ newborns_of width (generated_in m.nodes ++ all_numbered s.numbered fresh) s.numbered fresh →
+      newborns ≡ newborns_of settings.width (generated_in m.nodes ++ all_numbered (length m.nodes) fresh) (length m.nodes) fresh
+  newborns-here width newborns width_is is =
+      is ∙ (λ j. newborns_of (width_is j) (generated_in m.nodes ++ all_numbered (at.holds.counts.numbered j) fresh) (at.holds.counts.numbered j) fresh)
+
+  pub newborns-fit : (index : Indexed) (newborns : List Newborn) → index ≡ tables.index →
+      newborns ≡ newborns_of index.width (generated_in m.nodes ++ all_numbered s.numbered fresh) s.numbered fresh → AreNew s.nodes.kept newborns
+  newborns-fit index newborns same is =
+      let seen = map (λ (x : Kept). x.state) s.nodes.kept in
+      subst (AreNew s.nodes.kept) (sym (newborns-here index.width newborns (ap (λ (i : Indexed). i.width) (same ∙ at.holds.words.index)) is))
+      (newborns-new settings.width (generated_in m.nodes ++ all_numbered (length m.nodes) fresh) (length m.nodes) fresh s.nodes.kept
+      (number-within task settings s tables m node number at ev.linked k ev.there ev.named)
+      (subst (λ l. AreApart (map (λ (c : Child). c.state) l)) (sym ev.fresh_is) (unseen-apart (λ (c : Child). c.state) seen brood))
+      (λ state there old. unseen-new (λ (c : Child). c.state) seen brood state (subst (λ l. In state (map (λ (c : Child). c.state) l)) ev.fresh_is there) old))
+
+  pub goes : (words : NoveltyTables) (newborns : List Newborn) (repeats : ℕ) (later : Searched) → (index : Indexed) → index ≡ tables.index →
+      exceeds settings.words (length tables.tables + length pairs) (tuple_count settings.width task.atoms) ≡ false →
+      newborns ≡ newborns_of index.width (generated_in m.nodes ++ all_numbered s.numbered fresh) s.numbered fresh →
+      repeats ≡ length brood - length fresh → s.expanded < settings.budget → length brood ≤ 1048576 →
+      IsCommitted settings number k.mark.track newborns repeats s later →
+      StandsFor words (map birth_of (generated_in m.nodes ++ all_numbered s.numbered fresh)) → keys_of words.tables ≡ keys_of tables.tables ++ pairs →
+      words.index ≡ tables.index → words.limit ≡ tables.limit →
+      (next : Moment) × StandsAt task settings later words next × (expand task settings m node ≡ Goes next)
+      × (next.events ≡ m.events ++ event_as settings k repeats newborns ∷ [])
+  goes words newborns repeats later index same few newborns_is repeats_is spare small committed births keys words_index limit =
+      let n = length m.nodes in
+      let all = generated_in m.nodes ++ all_numbered n fresh in
+      let newborns_are = newborns-here index.width newborns (ap (λ (i : Indexed). i.width) (same ∙ at.holds.words.index)) newborns_is in
+      let births_are : StandsFor words (map birth_of all) =
+      subst (λ i. StandsFor words (map birth_of (generated_in m.nodes ++ all_numbered i fresh))) at.holds.counts.numbered births in
+      let holds = holds-next task settings s tables m node number at ev.linked k ev.there ev.named ev.law brood fresh ev.brood_is ev.fresh_is
+      pairs words newborns repeats later ev.pairs_is newborns_are repeats_is spare small ev.tracked committed births_are keys words_index limit in
+      let earlier = without m.nodes node in
+      let queued : AreQueued s.queue (waiting_of settings (newborns_of settings.width all n fresh)) later.queue =
+      subst (λ l. AreQueued s.queue (waiting_of settings l) later.queue) newborns_are committed.queue in
+      let waits : AreWaiting later.queue (earlier ++ nodes_at task settings m node) =
+      subst (λ l. AreWaiting later.queue (earlier ++ l))
+      (sym (nodes-are task settings s tables m node number at ev.linked k ev.there ev.named ev.law brood fresh ev.brood_is ev.fresh_is))
+      (waiting-later settings all n fresh earlier s.queue later.queue at.waiting queued) in
+      let stands : StandsAt task settings later words (after task settings m node) = record { holds = holds; waiting = waits } in (
+        after task settings m node,
+        stands,
+        expand-goes task settings m node (ap (λ i. exceeds settings.words i (tuple_count settings.width task.atoms)) (sym needed-length) ∙ few),
+        ap (λ e. m.events ++ e ∷ []) (sym (event-is task settings s tables m node number at ev.linked k ev.there ev.named ev.law brood fresh ev.brood_is ev.fresh_is
+            newborns repeats newborns_are repeats_is)),
+      )

@@ -1,0 +1,13 @@
+pub mod BirthLemmas
+pub mod ConditionLemmas
+pub mod EndLemmas
+pub mod ExpansionLemmas
+pub mod FreshLemmas
+pub mod KeepLemmas
+pub mod NewbornLemmas
+pub mod PairLemmas
+pub mod RootLemmas
+pub mod StepLemmas
+pub mod TakeLemmas
+pub mod TellingLemmas
+pub mod WaitingLemmas

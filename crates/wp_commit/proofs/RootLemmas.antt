@@ -1,0 +1,145 @@
+-- The root alone: what the tables hold of it, and what the search keeps.
+use Rattle.std.proofs.Common.{◌≡◌, ℕ, ◌*◌, ◌≤◌, Bool, true, false, List, [], ◌∷◌, length, map, Some, None, is_some, refl, sym, ap, ◌∙◌, subst, inr, ⊎_elim, arith}
+use Rattle.std.specs.List.{Contains}
+use Rattle.std.specs.Map.{keys_of}
+use Rattle.std.proofs.lemmas.Bool.{cond-true, ltb-false}
+use Rattle.std.proofs.lemmas.Map.Made.{IsSome-lookup_same_keys}
+use Rattle.wp_task.specs.declared.track.Mark.{Mark}
+use Rattle.wp_task.specs.Task.{PlanningTask}
+use Rattle.wp_task.specs.Novelty.{Generated, novelty_of}
+use Rattle.wp_count.specs.Laws.{HasCounters, IsMarked, MarksCount}
+use Rattle.wp_novel.specs.declared.birth.Pair.{Pair}
+use Rattle.wp_novel.specs.declared.birth.Birth.{Birth}
+use Rattle.wp_novel.specs.NoveltyTables.{NoveltyTables, is_pair, words_of, IsOpen}
+use Rattle.wp_novel.specs.StandsFor.{generated_of, StandsFor}
+use Rattle.wp_novel.proofs.TableLemmas.{is_pair_itself}
+use Rattle.wp_queue.specs.declared.queue.Waiting.{Waiting}
+use Rattle.wp_queue.specs.OpenList.{waiting, IsWith}
+use Rattle.wp_nodes.specs.declared.kept.Kept.{Kept}
+use Rattle.wp_nodes.specs.KeptNodes.{Keeping}
+use Rattle.wp_plain.specs.declared.settings.Settings.{Settings}
+use Rattle.wp_plain.specs.Nodes.{Node}
+use Rattle.wp_plain.specs.Pairs.{exceeds}
+use Rattle.wp_plain.specs.Expansion.{generated_at, root_of}
+use Rattle.wp_plain.specs.Explored.{track_at}
+use Rattle.wp_plain.specs.Run.{opening}
+use Rattle.wp_commit.specs.Newborns.{birth_of, counters_of}
+use Rattle.wp_commit.specs.Searched.{shown, IsOnPath, AreKept, IsWaiting, AreWaiting, AreTables, StandsAt}
+use Rattle.wp_commit.proofs.KeepLemmas.{Contains-one}
+
+-- ---- the root's pair
+-- empty tables stand for no birth
+pub stands_empty : (t : NoveltyTables) → t.tables ≡ [] → t.last ≡ None → StandsFor t []
+stands_empty t empty collected = record {
+  rising = λ i j d less within. absurd (omega arith);
+  pairs = λ k d within. absurd (omega arith);
+  last = collected;
+  words = λ pair words found tuple there.
+      let none : None ≡ Some words = sym (ap (λ tables. words_of tables pair) empty) ∙ found in absurd (cc);
+}
+
+-- the only pair is open
+pub open_alone : (tables : List (Pair × List ℕ)) (pair : Pair) → keys_of tables ≡ pair ∷ [] → IsOpen tables pair
+open_alone tables pair keys =
+    let one : List (Pair × List ℕ) = (pair, []) ∷ [] in
+    (IsSome-lookup_same_keys (is_pair pair) tables one keys).1
+    (ap is_some (cond-true (is_pair pair pair) (Some []) None (is_pair_itself pair)))
+
+-- a pair's words are within the limit
+pub one_within : (words tuples : ℕ) → exceeds words 1 tuples ≡ false → tuples ≤ words
+one_within words tuples few = let room : 1 * tuples ≤ words = ltb-false words (1 * tuples) few in omega arith
+
+-- ---- the root alone
+-- the root as it is entered, and as it is kept
+abbrev pub root_birth : List Bool → Mark → Birth
+root_birth state mark = record { number = 0; pair = record { g = mark.g; r = mark.r }; state = state }
+
+abbrev pub root_kept : List Bool → Mark → ℕ → Kept
+root_kept state mark w = record { number = 0; w = w; back = None; state = state; mark = mark }
+
+-- what is known of a root once it is entered and kept
+pub record IsRootAlone (task : PlanningTask) (settings : Settings) (tables : NoveltyTables) (nodes : Keeping) (queue : List Waiting)
+    (state : List Bool) (mark : Mark) (track : List ℕ) (w : ℕ) : Type 0 where
+  pub state_is : state ≡ task.init
+  pub track_is : mark.track ≡ 0
+  pub marked : IsMarked task state [] mark track
+  pub w_is : w ≡ novelty_of settings.width (generated_of (root_birth state mark) ∷ []) (generated_of (root_birth state mark))
+  pub index : tables.index ≡ record { atoms = task.atoms; width = settings.width }
+  pub limit : tables.limit ≡ settings.words
+  pub births : StandsFor tables (root_birth state mark ∷ [])
+  pub pairs : keys_of tables.tables ≡ record { g = mark.g; r = mark.r } ∷ []
+  pub nodes_are : nodes ≡ record { kept = root_kept state mark w ∷ []; tracks = track ∷ [] }
+  pub queued : IsWith [] (waiting w mark.g 0) queue
+
+module _ (task : PlanningTask) (settings : Settings) (counts : MarksCount) (tables : NoveltyTables) (nodes : Keeping) (queue : List Waiting)
+    (state : List Bool) (mark : Mark) (track : List ℕ) (w : ℕ) (alone : IsRootAlone task settings tables nodes queue state mark track w) where
+  generated_is : generated_of (root_birth state mark) ≡ generated_at task [] 0 task.init
+  generated_is =
+      let counters : HasCounters task state [] mark.g mark.r = counts task state [] mark track alone.marked in
+      (λ j. (let x : Generated = record { number = 0; counters = (counters.unmet j, counters.relaxed j); state = state } in x))
+      ∙ ap (generated_at task [] 0) alone.state_is
+
+  node_is : ◌≡◌ {A = Node} (record { generated = generated_of (root_birth state mark); w = w; kept = true; waits = true }) (root_of task settings)
+  node_is =
+      let novelty = alone.w_is ∙ (λ j. novelty_of settings.width (generated_is j ∷ []) (generated_is j)) in
+      λ j. (let n : Node = record { generated = generated_is j; w = novelty j; kept = true; waits = true } in n)
+
+  on_path : IsOnPath task (opening task settings).paths (track ∷ []) (root_kept state mark w)
+  on_path = record {
+    acts = refl;
+    before = [];
+    states = λ j. sym alone.state_is j ∷ [];
+    marked = subst (λ i. IsMarked task state [] mark (track_at (track ∷ []) i)) (sym alone.track_is) alone.marked;
+  }
+
+  root_is_kept : AreKept task nodes (opening task settings)
+  root_is_kept = subst (λ n. AreKept task n (opening task settings)) (sym alone.nodes_are) (record {
+    nodes_are = λ j. shown (node_is j) ∷ [];
+    on_paths = λ k there. subst (IsOnPath task (opening task settings).paths (track ∷ [])) (sym ((Contains-one (root_kept state mark w) k).0 there)) on_path;
+  })
+
+  root_is_entered : AreTables task settings tables (opening task settings).nodes
+  root_is_entered = record {
+    index = alone.index;
+    limit = alone.limit;
+    births = subst (λ x. StandsFor tables (birth_of x ∷ [])) generated_is alone.births;
+    pairs = ap (map counters_of) alone.pairs ∙ (λ j. (generated_is j).counters ∷ []);
+  }
+
+  root_waits : AreWaiting queue (opening task settings).nodes
+  root_waits =
+      let root = root_of task settings in
+      let at_root : waiting w mark.g 0 ≡ waiting root.w root.generated.counters.0 root.generated.number =
+      λ j. waiting (node_is j).w (node_is j).generated.counters.0 (node_is j).generated.number in
+      record {
+        waits = λ x. (
+          λ there. ⊎_elim
+              (λ (none : Contains [] x). absurd (omega (arith, none.1)))
+              (λ (is : x ≡ waiting w mark.g 0).
+              let found : (node : Node) × Contains (root ∷ []) node × (node.waits ≡ true) × IsWaiting x node = (root, (0, omega arith, refl), refl, is ∙ at_root) in
+              found)
+              ((alone.queued.has x).0 there),
+          λ found. (alone.queued.has x).1 (inr (subst (IsWaiting x) ((Contains-one root found.0).0 found.1) found.3 ∙ sym at_root)),
+        );
+        kept = λ node there waits. ap (λ n. n.kept) ((Contains-one root node).0 there);
+      }
+
+  pub opening-stands : StandsAt task settings (record { nodes = nodes; queue = queue; numbered = 1; kept = 1; expanded = 0; repeats = 0 }) tables (opening task settings)
+  opening-stands = record {
+    holds = record {
+      numbers = record { count = refl; numbers = (refl, tt) };
+      nodes = root_is_kept;
+      words = root_is_entered;
+      counts = record {
+        numbered = refl;
+        kept = sym (ap (λ n. length n.kept) alone.nodes_are);
+        expanded = refl;
+        repeats = refl;
+        few = omega arith;
+        born = omega arith;
+        bounded = omega arith;
+        births = refl;
+      };
+    };
+    waiting = root_waits;
+  }

@@ -1,0 +1,16 @@
+use Rattle.std.proofs.Common.{◌++◌, map, sym, ap, ◌∙◌}
+use Rattle.std.specs.Vec.Iter.{into_iter_items}
+use Rattle.wp_plain.specs.Expansion.{unseen}
+use Rattle.wp_plain.proofs.ListLemmas.{unseen-next}
+use Rattle.wp_commit.proofs.fresh.unseen.Goals as goal
+
+pub loop-child-preserved : goal.loop-child-preserved
+loop-child-preserved c =
+    let kept = map (λ k. k.state) c.args.nodes.now.kept in
+    let fresh = c.loop-child.fresh.items in record {
+      seen = c.in_ok-push_unseen.ensures.seen;
+      fresh =
+          unseen-next (λ x. x.state) kept fresh c.push_unseen.new.fresh.items c.in-Some.child (into_iter_items c.next.new.self) c.in_ok-push_unseen.ensures.fresh
+          ∙ (ap (λ xs. fresh ++ unseen (λ x. x.state) (kept ++ map (λ x. x.state) fresh) xs) (sym c.in-Some.ensures.steps.0)
+          ∙ c.loop-child.invariant.fresh);
+    }

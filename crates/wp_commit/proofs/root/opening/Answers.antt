@@ -1,0 +1,36 @@
+use Rattle.std.proofs.Common.{◌≡◌, ◌++◌, ◌∷◌, [], ap, ◌∙◌, subst}
+use Rattle.wp_task.specs.Novelty.{novelty_of}
+use Rattle.wp_novel.specs.declared.birth.Birth.{Birth}
+use Rattle.wp_novel.specs.StandsFor.{generated_of, StandsFor}
+use Rattle.wp_queue.specs.OpenList.{waiting, IsWith}
+use Rattle.wp_nodes.specs.KeptNodes.{Keeping}
+use Rattle.wp_commit.proofs.RootLemmas.{root_birth, root_kept, opening-stands}
+use Rattle.wp_commit.proofs.root.opening.Goals as goal
+
+pub returns : goal.returns
+returns c =
+    let task = c.args.task.now in
+    let settings = c.args.settings.now in
+    let tables = c.enter_root.new.tables in
+    let state = c.in_ok-state.state in
+    let mark = c.in_ok-state.mark in
+    let track = c.in_ok-state.track in
+    let w = c.in_ok-w.w in
+    let root : Birth = record { number = 0; pair = record { g = mark.g; r = mark.r }; state = c.in_ok-copy.field-0 } in
+    let root_is : root ≡ root_birth state mark =
+    λ j. (let b : Birth = record { number = 0; pair = record { g = mark.g; r = mark.r }; state = c.in_ok-copy.ensures j } in b) in
+    let width = ap (λ index. index.width) c.requires.index in
+    let tracked : c.add_track.new.self ≡ record { kept = []; tracks = track ∷ [] } =
+    c.in_ok-add_track.ensures.added ∙ ap (λ (n : Keeping). record n { tracks = n.tracks ++ track ∷ [] }) c.new-nodes.ensures in
+    opening-stands task settings c.counters_are_carried.ensures.counters tables c.add.new.self c.put.new.self state mark track w (record {
+      state_is = ap (λ parts. parts.0) c.in_ok-state.ensures.value;
+      track_is = ap (λ parts. parts.1.track) c.in_ok-state.ensures.value;
+      marked = c.in_ok-state.ensures.marked;
+      w_is = c.in_ok-w.ensures.novelty ∙ (λ j. novelty_of (width j) (generated_of (root_is j) ∷ []) (generated_of (root_is j)));
+      index = c.in_ok-w.ensures.index ∙ c.requires.index;
+      limit = c.in_ok-w.ensures.limit ∙ c.requires.limit;
+      births = subst (λ b. StandsFor tables (b ∷ [])) root_is c.in_ok-w.ensures.stands;
+      pairs = c.in_ok-w.ensures.pairs;
+      nodes_are = c.in_ok-add.ensures.added ∙ ap (λ (n : Keeping). record n { kept = n.kept ++ root_kept state mark w ∷ [] }) tracked;
+      queued = subst (λ waiting_before. IsWith waiting_before (waiting w mark.g 0) c.put.new.self) c.new-queue.ensures c.in_ok-put.ensures.put;
+    })

@@ -1,0 +1,2 @@
+pub mod Newborns
+pub mod Searched

@@ -1,0 +1,181 @@
+-- What the search keeps, and the moments of the definition that it stands for: the kept nodes in a table by state, the
+-- waiting ones in an open list, and of the others the words of the novelty tables alone.
+use Rattle.std.specs.Prelude.{◌≡◌, ◌↔◌, ◌+◌, ◌*◌, ◌≤◌, ℕ, Bool, true, false, List, [], ◌∷◌, length, map, filter, slice_set, Option, Some, MatchOption, Contains}
+use Rattle.std.specs.Bool.{MatchBool}
+use Rattle.std.specs.List.{sum_by}
+use Rattle.std.specs.Map.{keys_of}
+use Rattle.wp_task.specs.Task.{PlanningTask}
+use Rattle.wp_task.specs.Novelty.{Generated}
+use Rattle.wp_count.specs.declared.brood.Child.{Child}
+use Rattle.wp_count.specs.Broods.{children_of}
+use Rattle.wp_count.specs.Laws.{IsMarked}
+use Rattle.wp_watch.specs.declared.event.Event.{Event}
+use Rattle.wp_watch.specs.declared.watch.WatchKind.{WatchKind}
+use Rattle.wp_watch.specs.Sums.{born_in}
+use Rattle.wp_watch.specs.Places.{Place, AreAfter}
+use Rattle.wp_novel.specs.NoveltyTables.{NoveltyTables}
+use Rattle.wp_novel.specs.StandsFor.{StandsFor}
+use Rattle.wp_queue.specs.declared.queue.Waiting.{Waiting}
+use Rattle.wp_queue.specs.OpenList.{waiting}
+use Rattle.wp_nodes.specs.declared.kept.Kept.{Kept}
+use Rattle.wp_nodes.specs.KeptNodes.{Keeping, node_of}
+use Rattle.wp_nodes.specs.Links.{along}
+use Rattle.wp_plain.specs.declared.settings.Settings.{Settings}
+use Rattle.wp_plain.specs.declared.ending.Counts.{Counts}
+use Rattle.wp_plain.specs.declared.ending.How.{How}
+use Rattle.wp_plain.specs.Nodes.{Node, Path, path_at, generated_in}
+use Rattle.wp_plain.specs.Pairs.{pairs_in, tuple_count, exceeds}
+use Rattle.wp_plain.specs.Run.{Moment, Outcome, counts_of, run_from, run}
+use Rattle.wp_plain.specs.Run.Outcome.{Goes, Ends}
+use Rattle.wp_plain.specs.Explored.{track_at}
+use Rattle.wp_plain.specs.Numbers.{IsNumbered}
+use Rattle.wp_commit.specs.declared.searched.Searched.{Searched}
+use Rattle.wp_commit.specs.Newborns.{birth_of, counters_of}
+
+-- ---- kept nodes
+-- a kept node as it was generated
+abbrev pub generated_as : Kept → Generated
+generated_as k = record { number = k.number; counters = (k.mark.g, k.mark.r); state = k.state }
+
+-- a node, kept or of the definition, by what it was generated as and by its novelty
+abbrev pub shown_kept : Kept → Generated × ℕ
+shown_kept k = (generated_as k, k.w)
+
+abbrev pub shown : Node → Generated × ℕ
+shown node = (node.generated, node.w)
+
+-- the actions of the paths
+abbrev pub plans_in : List Path → ℕ → List ℕ
+plans_in paths number = (path_at paths number).acts
+
+-- the node's link leads along its path, and its mark is that of its path
+pub record IsOnPath (task : PlanningTask) (paths : List Path) (tracks : List (List ℕ)) (k : Kept) : Type 0 where
+  pub acts : plans_in paths k.number ≡ along (plans_in paths) k.back
+  pub before : List (List Bool)
+  pub states : (path_at paths k.number).states ≡ k.state ∷ before
+  pub marked : IsMarked task k.state before k.mark (track_at tracks k.mark.track)
+
+-- the nodes that are kept are those of the moment that are not pruned, each with its path
+pub record AreKept (task : PlanningTask) (nodes : Keeping) (m : Moment) : Type 0 where
+  pub nodes_are : map shown_kept nodes.kept ≡ map shown (filter (λ n. n.kept) m.nodes)
+  pub on_paths : (k : Kept) → Contains nodes.kept k → IsOnPath task m.paths nodes.tracks k
+
+-- the children of a kept node
+abbrev pub IsBroodOf : PlanningTask → Keeping → ℕ → List Child → Type 0
+IsBroodOf task nodes number brood = (k : Kept) → node_of nodes.kept number ≡ Some k →
+    brood ≡ children_of task k.state k.mark (track_at nodes.tracks k.mark.track)
+
+-- ---- the open list
+abbrev pub IsWaiting : Waiting → Node → Type 0
+IsWaiting x node = x ≡ waiting node.w node.generated.counters.0 node.generated.number
+
+-- what waits are the nodes that wait; they are kept
+pub record AreWaiting (queue : List Waiting) (nodes : List Node) : Type 0 where
+  pub waits : (x : Waiting) → Contains queue x ↔ ((node : Node) × Contains nodes node × (node.waits ≡ true) × IsWaiting x node)
+  pub kept : (node : Node) → Contains nodes node → node.waits ≡ true → node.kept ≡ true
+
+-- ---- novelty tables
+-- the tables have the tuples of the task, and stand for all numbered nodes; a pair is open where some node has it
+pub record AreTables (task : PlanningTask) (settings : Settings) (tables : NoveltyTables) (nodes : List Node) : Type 0 where
+  pub index : tables.index ≡ record { atoms = task.atoms; width = settings.width }
+  pub limit : tables.limit ≡ settings.words
+  pub births : StandsFor tables (map birth_of (generated_in nodes))
+  pub pairs : map counters_of (keys_of tables.tables) ≡ pairs_in (generated_in nodes)
+
+-- ---- counts
+pub record AreCounted (settings : Settings) (s : Searched) (m : Moment) : Type 0 where
+  pub numbered : s.numbered ≡ length m.nodes
+  pub kept : s.kept ≡ length s.nodes.kept
+  pub expanded : s.expanded ≡ length m.events
+  pub repeats : s.repeats ≡ sum_by (λ event. event.repeats) m.events
+  pub few : s.expanded ≤ settings.budget
+  pub born : s.numbered ≤ 1 + 1048576 * s.expanded
+  pub bounded : s.repeats ≤ 1048576 * s.expanded
+  pub births : born_in m.events + 1 ≡ length m.nodes
+
+-- ---- moments
+-- the search stands for a moment but for what waits
+pub record HoldsAt (task : PlanningTask) (settings : Settings) (s : Searched) (tables : NoveltyTables) (m : Moment) : Type 0 where
+  pub numbers : IsNumbered m
+  pub nodes : AreKept task s.nodes m
+  pub words : AreTables task settings tables m.nodes
+  pub counts : AreCounted settings s m
+
+-- the search stands for a moment
+pub record StandsAt (task : PlanningTask) (settings : Settings) (s : Searched) (tables : NoveltyTables) (m : Moment) : Type 0 where
+  pub holds : HoldsAt task settings s tables m
+  pub waiting : AreWaiting s.queue m.nodes
+
+-- the nodes in which one of them waits no longer
+abbrev pub without : List Node → Node → List Node
+without nodes node = slice_set nodes node.generated.number (record node { waits = false })
+
+-- the node was taken from the open list as the first one, and the search stands for the rest
+pub record IsTakenAt (task : PlanningTask) (settings : Settings) (s : Searched) (tables : NoveltyTables) (m : Moment) (node : Node) (number : ℕ) : Type 0 where
+  pub holds : HoldsAt task settings s tables m
+  pub waiting : AreWaiting s.queue (without m.nodes node)
+  pub there : Contains m.nodes node
+  pub kept : node.kept ≡ true
+  pub named : node.generated.number ≡ number
+
+-- ---- watchers
+-- the places are those of some watchers after these events
+abbrev pub AreAfterFor : List Event → List Place → Type 0
+AreAfterFor events places = (list : List (WatchKind × Option ℕ)) × AreAfter list events places
+
+-- watchers whose places were after the events of a moment are after those of a later one
+abbrev pub AreTold : List Event → List Event → List Place → List Place → Type 0
+AreTold events more places later = (list : List (WatchKind × Option ℕ)) → AreAfter list events places → AreAfter list more later
+
+-- ---- what a step may ask
+abbrev pub HoldsAtSome : PlanningTask → Settings → Searched → NoveltyTables → Type 0
+HoldsAtSome task settings s tables = (m : Moment) × HoldsAt task settings s tables m
+
+-- the watchers were told the events of a moment that the search stands for
+abbrev pub StandsAtSome : PlanningTask → Settings → Searched → NoveltyTables → List Place → Type 0
+StandsAtSome task settings s tables places = (m : Moment) × StandsAt task settings s tables m × AreAfterFor m.events places
+
+abbrev pub IsTakenAtSome : PlanningTask → Settings → Searched → NoveltyTables → ℕ → Type 0
+IsTakenAtSome task settings s tables number = (m : Moment) × (node : Node) × IsTakenAt task settings s tables m node number
+
+-- the same, and the watchers were told the events of that moment
+abbrev pub IsTakenAndTold : PlanningTask → Settings → Searched → NoveltyTables → ℕ → List Place → Type 0
+IsTakenAndTold task settings s tables number places =
+    (m : Moment) × (node : Node) × IsTakenAt task settings s tables m node number × AreAfterFor m.events places
+
+-- ---- steps
+-- a step from a moment: it goes on to a moment that the search then stands for, and is told; or it ends and the moment stays
+abbrev pub Steps : PlanningTask → Settings → Outcome → Moment → List Place → Searched → NoveltyTables → List Place → Option How → Type 0
+Steps task settings outcome m places s tables told how = MatchOption how
+    ((next : Moment) × StandsAt task settings s tables next × (outcome ≡ Goes next) × AreTold m.events next.events places told)
+    (λ end. HoldsAt task settings s tables m × (outcome ≡ Ends end) × (told ≡ places))
+
+-- the same, from each moment that the search stands for; `places` are those before, and `told` those now
+abbrev pub StepsFrom : PlanningTask → Settings → (Moment → Outcome) → Searched → NoveltyTables → List Place
+    → Searched → NoveltyTables → List Place → Option How → Type 0
+StepsFrom task settings outcome s tables places later words told how = (m : Moment) →
+    StandsAt task settings s tables m → Steps task settings (outcome m) m places later words told how
+
+-- the same, where a node was taken
+abbrev pub StepsAt : PlanningTask → Settings → (Moment → Node → Outcome) → ℕ → Searched → NoveltyTables → List Place
+    → Searched → NoveltyTables → List Place → Option How → Type 0
+StepsAt task settings outcome number s tables places later words told how = (m : Moment) (node : Node) →
+    IsTakenAt task settings s tables m node number → Steps task settings (outcome m node) m places later words told how
+
+-- all the steps from each moment that the search stands for
+abbrev pub RunsFrom : PlanningTask → Settings → Searched → NoveltyTables → List Place
+    → Searched → NoveltyTables → List Place → How → Type 0
+RunsFrom task settings s tables places later words told how = (m : Moment) → StandsAt task settings s tables m →
+    (end : Moment) × HoldsAt task settings later words end × (run_from task settings (settings.budget + 1) m ≡ (how, end))
+    × AreTold m.events end.events places told
+
+-- the counts are those of each moment that the search stands for
+abbrev pub AreCountsOf : PlanningTask → Settings → Searched → NoveltyTables → Counts → Type 0
+AreCountsOf task settings s tables counts = (m : Moment) → HoldsAt task settings s tables m → counts ≡ counts_of m
+
+-- ---- what a search leaves in the tables
+-- no pair, where the root's own pair wants more words than the limit; else they stand for all numbered nodes of the run
+abbrev pub LeavesTables : PlanningTask → Settings → NoveltyTables → Type 0
+LeavesTables task settings tables = MatchBool (exceeds settings.words 1 (tuple_count settings.width task.atoms))
+    (tables.tables ≡ [])
+    (AreTables task settings tables (run task settings).1.nodes)

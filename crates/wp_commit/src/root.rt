@@ -1,0 +1,86 @@
+//! The opening: the root alone.
+ghost use Rattle.std.specs.Prelude.{◌≡◌, ◌<◌, ◌≤◌, ◌^◌, [], ◌∷◌, None, length, false, IfOk, OnOk};
+ghost use Rattle.std.specs.Map.{keys_of};
+ghost use Rattle.wp_task.specs.Novelty.{novelty_of};
+ghost use Rattle.wp_tuples.specs.TuplePlaces.{tuples_of};
+ghost use Rattle.wp_novel.specs.StandsFor.{generated_of, StandsFor};
+ghost use Rattle.wp_plain.specs.Ranges.{AreInRange};
+ghost use Rattle.wp_plain.specs.Pairs.{tuple_count, exceeds};
+ghost use Rattle.wp_plain.specs.Run.{opening};
+ghost use Rattle.wp_commit.specs.Searched.{StandsAt};
+
+use crate::pairs::open;
+use crate::searched::Searched;
+use std::alloc::{AllocError, Global};
+use wp_count::{counters_are_carried, root_of};
+use wp_nodes::{Kept, Nodes};
+use wp_novel::{Birth, Births, Pair, Tables};
+use wp_plain::Settings;
+use wp_queue::Queue;
+use wp_task::Task;
+
+/// The root, entered into tables that are empty, kept and waiting.
+pub(crate) fn opening(
+    alloc: Global,
+    tables: &mut Tables,
+    task: &Task,
+    settings: &Settings,
+) -> Result<Searched, AllocError>
+    requires range { AreInRange settings.now }
+    requires index { tables.old.index ≡ record { atoms = task.now.atoms; width = settings.now.width } }
+    requires limit { tables.old.limit ≡ settings.now.words }
+    requires empty { tables.old.tables ≡ [] }
+    requires collected { tables.old.last ≡ None }
+    requires few { exceeds settings.now.words 1 (tuple_count settings.now.width task.now.atoms) ≡ false }
+    ensures { IfOk result (λ searched. StandsAt task.now settings.now searched tables.new (opening task.now settings.now)) }
+{
+    // The law of the counters: what is kept of a node gives those of its whole path.
+    counters_are_carried();
+    let (state, mark, track) = root_of(alloc, task)?;
+    let g = mark.g;
+    let root = Birth {
+        number: 0,
+        pair: Pair { g, r: mark.r },
+        state: state.copy(alloc)?,
+    };
+    let w = enter_root(alloc, tables, root)?;
+    let mut nodes = Nodes::new(alloc);
+    nodes.add_track(track)?;
+    nodes.add(Kept {
+        number: 0,
+        w,
+        back: None,
+        state,
+        mark,
+    })?;
+    let mut queue = Queue::new(alloc);
+    queue.put(w, g, 0)?;
+    Ok(Searched {
+        nodes,
+        queue,
+        numbered: 1,
+        kept: 1,
+        expanded: 0,
+        repeats: 0,
+    })
+}
+
+/// Opens the root's pair, enters the root, and reads its novelty.
+fn enter_root(alloc: Global, tables: &mut Tables, root: Birth) -> Result<u8, AllocError>
+    requires empty { tables.old.tables ≡ [] }
+    requires collected { tables.old.last ≡ None }
+    requires within { length (tuples_of tables.old.index) ≤ tables.old.limit }
+    requires size { length root.state ≡ tables.old.index.atoms }
+    requires number { root.number < 2 ^ 63 }
+    ensures novelty { IfOk result (λ w. w ≡ novelty_of tables.old.index.width (generated_of root ∷ []) (generated_of root)) }
+    ensures stands { OnOk result (StandsFor tables.new (root ∷ [])) }
+    ensures pairs { OnOk result (keys_of tables.new.tables ≡ root.pair ∷ []) }
+    ensures index { OnOk result (tables.new.index ≡ tables.old.index) }
+    ensures limit { OnOk result (tables.new.limit ≡ tables.old.limit) }
+{
+    open(tables, root.pair)?;
+    let mut births = Vec::new(alloc);
+    births.push(root)?;
+    let births = tables.enter(Births::of_vec(births));
+    Ok(tables.novelty(&births.as_slice()[0]))
+}

@@ -1,0 +1,40 @@
+-- The laws of an ending, all of them.
+use Rattle.std.proofs.Common.{◌≡◌, ℕ, List, Option, sym, ap, subst, ◌∙◌}
+use Rattle.wp_task.specs.Task.{PlanningTask, IsTask}
+use Rattle.wp_watch.specs.declared.watch.WatchKind.{WatchKind}
+use Rattle.wp_watch.specs.Places.{Place, AreAfter}
+use Rattle.wp_plain.specs.declared.settings.Settings.{Settings}
+use Rattle.wp_plain.specs.declared.ending.Counts.{Counts}
+use Rattle.wp_plain.specs.declared.ending.Ending.{Ending}
+use Rattle.wp_plain.specs.declared.ending.How.{How}
+use Rattle.wp_plain.specs.declared.explored.Explored.{Explored}
+use Rattle.wp_plain.specs.Run.{Moment, run, ending_from, ending_of}
+use Rattle.wp_plain.specs.Explored.{Watched, watched, AreCountsOf, EndsAs}
+use Rattle.wp_plain.specs.Laws.{AnswersFor}
+use Rattle.wp_plain.proofs.FoundLemmas.{found_is_plan}
+use Rattle.wp_plain.proofs.EmptiedLemmas.{emptied_has_no_plan}
+use Rattle.wp_plain.proofs.CounterPairs.{pairs_are_few}
+use Rattle.wp_plain.proofs.LimitLemmas.{budget_is_enough, expansions_are_few, limits_are_enough}
+
+pub answers_for : (task : PlanningTask) (settings : Settings) → IsTask task → AnswersFor task settings (ending_of task settings)
+answers_for task settings fits = record {
+  found = found_is_plan task settings;
+  none = emptied_has_no_plan task settings;
+  few = expansions_are_few task settings fits;
+  pairs = pairs_are_few task settings fits;
+  unspent = budget_is_enough task settings fits;
+  decided = λ states f5. limits_are_enough task settings states fits f5;
+}
+
+-- the ending of a search, from what it stands for where it ends
+pub ending_is : (task : PlanningTask) (settings : Settings) (watchers : List (WatchKind × Option ℕ)) (e : Explored) (places : List Place) (how : How) (counts : Counts) →
+    EndsAs task settings watchers (run task settings) (watched e places) how → AreCountsOf e counts →
+    ◌≡◌ {A = Ending} (record { how = how; counts = counts }) (ending_of task settings)
+ending_is task settings watchers e places how counts end counted =
+    (λ j. (let x : Ending = record { how = how; counts = counted task settings watchers places end.0 end.1 end.2 j } in x)) ∙ ap ending_from (sym end.3)
+
+-- and where the watchers stand then
+pub told_is : (task : PlanningTask) (settings : Settings) (watchers : List (WatchKind × Option ℕ)) (s : Watched) (how : How) →
+    EndsAs task settings watchers (run task settings) s how → AreAfter watchers (run task settings).1.events s.places
+told_is task settings watchers s how end =
+    subst (λ (x : How × Moment). AreAfter watchers x.1.events s.places) (sym end.3) end.2.told

@@ -1,0 +1,5 @@
+mod Rows
+pub mod SumLemmas
+pub mod PlaceLemmas
+pub mod FrontLemmas
+pub mod SlotLemmas

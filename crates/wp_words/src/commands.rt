@@ -1,0 +1,32 @@
+//! Commands.
+
+use wp_edge::Text;
+use wp_plain::Settings;
+use wp_watch::WatchKinds;
+
+/// What is to be done. Names of files are text.
+#[derive(Drop)]
+pub enum Command {
+    /// Searches for a plan of a problem. `watch` has each kind of watcher at most once, in the order of the words; `plain`
+    /// asks for the search that scans lists.
+    Plan {
+        domain: Text,
+        problem: Text,
+        settings: Settings,
+        watch: WatchKinds,
+        plain: bool,
+    },
+
+    /// Says whether a plan is valid in a problem.
+    Check {
+        domain: Text,
+        problem: Text,
+        plan: Text,
+    },
+
+    /// Prints the task of a problem.
+    Ground {
+        domain: Text,
+        problem: Text,
+    },
+}

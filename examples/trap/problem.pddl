@@ -1,0 +1,1 @@
+(define (problem p) (:domain trap) (:init (s)) (:goal (z)))
