@@ -10,7 +10,6 @@
 pub mod costs;
 mod frontier;
 pub mod laws;
-mod needers;
 mod pending;
 pub mod plans;
 mod settle;
