@@ -7,11 +7,11 @@ use Rattle.std.proofs.lemmas.List.{get_or-set_same, get_or-set_other}
 use Rattle.std.proofs.lemmas.List.Elements.{All-contains, All-get_or, All-from_get_or, Contains-get_or}
 use Rattle.wp_task.specs.declared.acts.Act.{Act}
 use Rattle.wp_task.specs.Set.{has, lists}
-use Rattle.wp_task.specs.Task.{act_at, IsAct}
+use Rattle.wp_task.specs.Task.{act_at, needers_of, IsAct}
 use Rattle.wp_task.proofs.TaskLemmas.{range_below}
 use Rattle.wp_task.proofs.Members.{In, In-filter, In-filter_cases, In-from_Contains, Contains-from_In}
 use Rattle.wp_relax.specs.AdditiveCost.{infinite}
-use Rattle.wp_relax.specs.Frontier.{IsNearest, needers_of, least_offer}
+use Rattle.wp_relax.specs.Frontier.{IsNearest, least_offer}
 use Rattle.wp_relax.proofs.Listed.{In-from_lists, lists-from_In, In-range}
 use Rattle.wp_relax.proofs.SumLemmas.{member-le-sum, sum-same, sum-one_more, one-yes, count-same, count-one_less}
 use Rattle.wp_relax.proofs.InOrder.{settled_price, left_of, IsCounted, IsOffer, IsSettling, still_counted, all_offered}

@@ -1,11 +1,9 @@
 -- The frontier at which atoms are settled in the order of their costs, after Dijkstra (Numerische Mathematik 1, 1959)
 -- and Knuth (Information Processing Letters 6, 1977).
-use Rattle.std.specs.Prelude.{◌≡◌, ◌==◌, ◌&&◌, ◌<◌, ◌≤◌, ℕ, min, Bool, false, All, Contains, List, length, map, fold, filter, slice_index, Vec}
-use Rattle.std.specs.List.{range_with_len}
+use Rattle.std.specs.Prelude.{◌≡◌, ◌==◌, ◌&&◌, ◌<◌, ◌≤◌, ℕ, min, Bool, false, All, Contains, List, length, map, fold, filter, slice_index}
 use Rattle.std.specs.Ordering.{nat_cmp, ordering_then}
 use Rattle.std.specs.BinaryHeap.{IsHeap}
 use Rattle.std.specs.declared.cmp.Reverse.{Reverse}
-use Rattle.std.specs.declared.alloc.Global.{Global}
 use Rattle.wp_task.specs.declared.acts.Act.{Act}
 use Rattle.wp_task.specs.Set.{has, lists}
 use Rattle.wp_task.specs.Task.{act_at}
@@ -45,14 +43,6 @@ pub record IsFrontier (costs : List ℕ) (settled : List Bool) (waiting : List W
   pub each : (p : ℕ) → p < length costs → has settled p ≡ false → slice_index costs p < infinite →
       Contains waiting (record { 0 = (slice_index costs p, p) })
   pub ordered : IsHeap (λ v w. ordering_then (nat_cmp w.0.0 v.0.0) (nat_cmp w.0.1 v.0.1)) waiting
-
--- the actions that need an atom, in number order
-abbrev pub needers_of : List Act → ℕ → List ℕ
-needers_of acts p = filter (λ a. lists (act_at acts a).pre p) (range_with_len 0 (length acts))
-
--- the lists that vectors have
-abbrev pub numbers_in : List (Vec ℕ Global) → List (List ℕ)
-numbers_in vectors = map (λ v. v.items) vectors
 
 -- whether an action adds the atom and has no precondition left that is not settled
 abbrev pub offers : List Act → List ℕ → ℕ → ℕ → Bool

@@ -18,11 +18,10 @@ pub(crate) struct Pending {
 impl Pending {
     /// Nothing is settled.
     pub(crate) fn of(alloc: Global, task: &Task) -> Result<Pending, AllocError>
-        requires { task.now.atoms < 2 ^ 32 }
         ensures left { IfOk result (λ pending. pending.left.items ≡ map (λ act. length act.pre) task.now.acts) }
         ensures prices { IfOk result (λ pending. pending.prices.items ≡ replicate (length task.now.acts) 1) }
     {
-        let left = precondition_counts(alloc, task)?;
+        let left = Vec::from_slice(alloc, task.need_counts())?;
         let prices = vec![in alloc; 1u64; task.act_count() as usize]?;
         Ok(Pending { left, prices })
     }
@@ -58,15 +57,4 @@ impl Pending {
         let price = self.prices[a as usize];
         self.prices[a as usize] = INFINITE.min(price + cost);
     }
-}
-
-fn precondition_counts(alloc: Global, task: &Task) -> Result<Vec<u32>, AllocError>
-    requires { task.now.atoms < 2 ^ 32 }
-    ensures { IfOk result (λ counts. counts.items ≡ map (λ act. length act.pre) task.now.acts) }
-{
-    let mut counts = Vec::with_capacity(alloc, task.act_count() as usize)?;
-    for a in 0..task.act_count() {
-        counts.push(task.act(a).pre.as_slice().len() as u32)?;
-    }
-    Ok(counts)
 }

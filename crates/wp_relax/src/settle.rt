@@ -12,7 +12,6 @@ ghost use Rattle.wp_relax.specs.AdditiveCost.{infinite, costs_of};
 ghost use Rattle.wp_relax.specs.Frontier.{offers, least_offer};
 
 use crate::frontier::{Frontier, INFINITE};
-use crate::needers::Needers;
 use crate::pending::Pending;
 use std::alloc::{AllocError, Global};
 use wp_task::{Atoms, State, Task};
@@ -24,11 +23,10 @@ pub(crate) fn settled_costs(alloc: Global, task: &Task, s: &State) -> Result<Vec
 {
     let mut frontier = Frontier::of(alloc, task.atoms())?;
     let mut pending = Pending::of(alloc, task)?;
-    let needers = Needers::of(alloc, task)?;
     offer_state(&mut frontier, s)?;
     offer_all(&mut frontier, task, &pending)?;
     while let Some(p) = frontier.settle_nearest() {
-        let acts = needers.at(p);
+        let acts = task.needers(p);
         pending.settle_each(acts, frontier.cost(p));
         offer_each(&mut frontier, task, &pending, acts)?;
     }

@@ -4,6 +4,7 @@ pub mod OptionLemmas
 pub mod SetLemmas
 pub mod AddersLemmas
 pub mod TaskLemmas
+pub mod FlatLemmas
 pub mod PlanLemmas
 pub mod WordLemmas
 pub mod Members

@@ -2,4 +2,5 @@ pub mod Set
 pub mod Packing
 pub mod Task
 pub mod Novelty
+pub mod Flat
 pub mod Keeping

@@ -33,6 +33,10 @@ goal_counter goals state = count_by (λ p. not (has state p)) goals
 abbrev pub adders_of : List Act → ℕ → List ℕ
 adders_of acts p = filter (λ a. lists (act_at acts a).add p) (range_with_len 0 (length acts))
 
+-- the actions that need an atom, in number order
+abbrev pub needers_of : List Act → ℕ → List ℕ
+needers_of acts p = filter (λ a. lists (act_at acts a).pre p) (range_with_len 0 (length acts))
+
 -- the actions that apply in a state, in number order
 abbrev pub applicable_in : List Act → List Bool → List ℕ
 applicable_in acts state = filter (λ a. applies (act_at acts a) state) (range_with_len 0 (length acts))

@@ -1,17 +1,20 @@
 //! Tasks: what is given, and what an action and a plan do in it.
-ghost use Rattle.std.specs.Prelude.{◌≡◌, ℕ, ◌<◌, ◌≤◌, length, not, count_by, IfOk, All};
+ghost use Rattle.std.specs.Prelude.{◌≡◌, ℕ, ◌<◌, ◌≤◌, length, map, not, count_by, IfOk, All};
 ghost use Rattle.std.specs.List.{list_all};
 ghost use Rattle.wp_task.specs.Set.{has, AreAtoms};
-ghost use Rattle.wp_task.specs.Task.{act_at, applies, result_of, goal_counter, adders_of, is_plan, IsAct, IsTask};
+ghost use Rattle.wp_task.specs.Task.{act_at, applies, result_of, goal_counter, adders_of, needers_of, is_plan, IsAct, IsTask};
 
 use crate::acts::{Act, Acts};
-use crate::adders;
 use crate::atoms::Atoms;
+use crate::flat::Flat;
+use crate::places::places_by_number;
 use crate::state::State;
+use crate::tables;
 use std::alloc::{AllocError, Global};
 use std::marker::Model;
 
-/// A planning task, with the list of the actions that add it for each atom.
+/// A planning task, with the lists of the actions that add it and of those that need it for each atom, and with what is
+/// asked most of its actions in flat arrays.
 #[derive(Drop)]
 pub struct Task {
     atoms: u32,
@@ -19,6 +22,10 @@ pub struct Task {
     goals: Atoms,
     acts: Acts,
     adders: Vec<Atoms>,
+    needers: Flat,
+    pre: Flat,
+    add: Flat,
+    need_counts: Vec<u32>,
 }
 
 impl Model for Task {
@@ -45,13 +52,21 @@ impl Task {
         requires { IsTask (record { atoms = atoms; init = init; goals = goals; acts = acts }) }
         ensures { IfOk result (λ task. task ≡ record { atoms = atoms; init = init; goals = goals; acts = acts }) }
     {
-        let adders = adders::adders_by_atom(alloc, atoms, &acts)?;
+        let pre = tables::preconditions(alloc, &acts)?;
+        let add = tables::add_effects(alloc, &acts)?;
+        let need_counts = tables::need_counts(alloc, &acts)?;
+        let adders = places_by_number(alloc, atoms, &add)?;
+        let needers = tables::flattened(alloc, &places_by_number(alloc, atoms, &pre)?)?;
         Ok(Task {
             atoms,
             init,
             goals,
             acts,
             adders,
+            needers,
+            pre,
+            add,
+            need_counts,
         })
     }
 
@@ -103,6 +118,40 @@ impl Task {
         ensures numbers { All (λ a. a < length self.now.acts) result.now }
     {
         &self.adders[p as usize]
+    }
+
+    /// The actions that need an atom, in number order.
+    pub fn needers(&self, p: u32) -> &[u32]
+        requires { p < self.now.atoms }
+        ensures value { result.now ≡ needers_of self.now.acts p }
+        ensures numbers { All (λ a. a < length self.now.acts) result.now }
+    {
+        self.needers.at(p)
+    }
+
+    /// The preconditions of an action.
+    pub fn pre(&self, a: u32) -> &[u32]
+        requires { a < length self.now.acts }
+        ensures value { result.now ≡ (act_at self.now.acts a).pre }
+        ensures fits { AreAtoms self.now.atoms result.now }
+    {
+        self.pre.at(a)
+    }
+
+    /// The add effects of an action.
+    pub fn add(&self, a: u32) -> &[u32]
+        requires { a < length self.now.acts }
+        ensures value { result.now ≡ (act_at self.now.acts a).add }
+        ensures fits { AreAtoms self.now.atoms result.now }
+    {
+        self.add.at(a)
+    }
+
+    /// How many preconditions each action has, by number.
+    pub fn need_counts(&self) -> &[u32]
+        ensures { result.now ≡ map (λ act. length act.pre) self.now.acts }
+    {
+        self.need_counts.as_slice()
     }
 
     /// Whether the action applies: its preconditions are in the state.

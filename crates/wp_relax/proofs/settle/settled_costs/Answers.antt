@@ -3,16 +3,15 @@ use Rattle.std.specs.List.{All}
 use Rattle.std.specs.List.Sorted.{IsStrictlyIncreasing}
 use Rattle.std.proofs.lemmas.List.{length-map, length-replicate}
 use Rattle.std.proofs.lemmas.List.Elements.{All-same}
-use Rattle.std.proofs.lemmas.List.FromFn.{length-map-range_with_len}
 use Rattle.wp_task.specs.declared.acts.Act.{Act}
 use Rattle.wp_task.specs.Set.{lists}
-use Rattle.wp_task.specs.Task.{IsAct}
+use Rattle.wp_task.specs.Task.{needers_of, IsAct}
 use Rattle.wp_relax.specs.AdditiveCost.{infinite}
-use Rattle.wp_relax.specs.Frontier.{Front, IsNearest, needers_of, least_offer}
+use Rattle.wp_relax.specs.Frontier.{Front, IsNearest, least_offer}
 use Rattle.wp_relax.proofs.InOrder.{IsSettling, is_start, starts, ends}
 use Rattle.wp_relax.proofs.OneSettled.{waits, prices-bounded, steps}
-use Rattle.wp_relax.proofs.NeederLemmas.{needers-rise, needers-below, needers-at}
-use Rattle.wp_relax.proofs.settle.settled_costs.Goals.{After-at-acts}
+use Rattle.wp_task.proofs.TaskLemmas.{needers_below}
+use Rattle.wp_relax.proofs.NeederLemmas.{needers-rise}
 use Rattle.wp_relax.proofs.settle.settled_costs.Goals as goal
 
 pub loop-p-init : goal.loop-p-init
@@ -37,34 +36,24 @@ loop-p-init c =
 inside : (front : Front) (p size atoms : ℕ) → IsNearest front p → length front.costs ≡ size → size ≡ atoms → p < atoms
 inside front p size atoms nearest costs all = omega (arith, nearest.within)
 
--- the list of the atom is the list of the actions that need it
-needing : (c : After-at-acts) → c.at-acts.result.now ≡ needers_of c.args.task.now.acts c.in-Some.p
-needing c =
-    needers-at c.args.task.now.acts c.args.task.now.atoms c.in-Some.p c.in_ok-needers.needers c.at-acts.result.now
-    c.in_ok-needers.ensures
-    (inside c.loop-p.frontier c.in-Some.p (length c.args.s.now) c.args.task.now.atoms c.in-Some.ensures.nearest c.loop-p.invariant.settling.counted.size c.requires)
-    c.at-acts.ensures
-
-pub at-acts-requires : goal.at-acts-requires
-at-acts-requires c =
-    let size : length c.in_ok-needers.needers ≡ c.args.task.now.atoms =
-    ap length c.in_ok-needers.ensures ∙ length-map-range_with_len (needers_of c.args.task.now.acts) 0 c.args.task.now.atoms in
-    omega (arith, inside c.loop-p.frontier c.in-Some.p (length c.args.s.now) c.args.task.now.atoms c.in-Some.ensures.nearest c.loop-p.invariant.settling.counted.size c.requires)
+pub needers-acts-requires : goal.needers-acts-requires
+needers-acts-requires c =
+    inside c.loop-p.frontier c.in-Some.p (length c.args.s.now) c.args.task.now.atoms c.in-Some.ensures.nearest c.loop-p.invariant.settling.counted.size c.requires
 
 pub settle_each-requires-clause-rising : goal.settle_each-requires-clause-rising
 settle_each-requires-clause-rising c =
-    subst IsStrictlyIncreasing (sym (needing (goal.at.settle_each-requires-clause-rising c).After-at-acts)) (needers-rise c.args.task.now.acts c.in-Some.p)
+    subst IsStrictlyIncreasing (sym c.needers-acts.ensures.value) (needers-rise c.args.task.now.acts c.in-Some.p)
 
 pub settle_each-requires-clause-numbers : goal.settle_each-requires-clause-numbers
 settle_each-requires-clause-numbers c =
-    subst (λ (n : ℕ). All (λ a. a < n) c.at-acts.result.now) (sym c.loop-p.invariant.left)
-    (All-same (λ a. a < length c.args.task.now.acts) c.at-acts.result.now (needers_of c.args.task.now.acts c.in-Some.p)
-    (needing (goal.at.settle_each-requires-clause-numbers c).After-at-acts) (needers-below c.args.task.now.acts c.in-Some.p))
+    subst (λ (n : ℕ). All (λ a. a < n) c.needers-acts.result.now) (sym c.loop-p.invariant.left)
+    (All-same (λ a. a < length c.args.task.now.acts) c.needers-acts.result.now (needers_of c.args.task.now.acts c.in-Some.p)
+    c.needers-acts.ensures.value (needers_below c.args.task.now.acts c.in-Some.p))
 
 pub settle_each-requires-clause-waits : goal.settle_each-requires-clause-waits
 settle_each-requires-clause-waits c =
-    All-same (λ a. 0 < get_or c.loop-p.pending.left.items a 0) c.at-acts.result.now (needers_of c.args.task.now.acts c.in-Some.p)
-    (needing (goal.at.settle_each-requires-clause-waits c).After-at-acts)
+    All-same (λ a. 0 < get_or c.loop-p.pending.left.items a 0) c.needers-acts.result.now (needers_of c.args.task.now.acts c.in-Some.p)
+    c.needers-acts.ensures.value
     (waits c.args.task.now.acts c.args.s.now c.loop-p.frontier.costs c.loop-p.frontier.settled c.loop-p.pending.left.items c.loop-p.pending.prices.items
     c.in-Some.p c.loop-p.invariant.settling.counted c.in-Some.ensures.nearest.unsettled)
 
@@ -75,8 +64,8 @@ settle_each-requires-clause-bounded c =
 
 pub offer_each-requires-clause-numbers : goal.offer_each-requires-clause-numbers
 offer_each-requires-clause-numbers c =
-    All-same (λ a. a < length c.args.task.now.acts) c.at-acts.result.now (needers_of c.args.task.now.acts c.in-Some.p)
-    (needing (goal.at.offer_each-requires-clause-numbers c).After-at-acts) (needers-below c.args.task.now.acts c.in-Some.p)
+    All-same (λ a. a < length c.args.task.now.acts) c.needers-acts.result.now (needers_of c.args.task.now.acts c.in-Some.p)
+    c.needers-acts.ensures.value (needers_below c.args.task.now.acts c.in-Some.p)
 
 pub loop-p-preserved : goal.loop-p-preserved
 loop-p-preserved c =
@@ -90,7 +79,7 @@ loop-p-preserved c =
     let now_left = c.settle_each.new.self.left.items in
     let now_prices = c.settle_each.new.self.prices.items in
     let new = c.offer_each.new.frontier.costs in
-    let are : c.at-acts.result.now ≡ needers_of acts p = needing (goal.at.loop-p-preserved c).After-at-acts in
+    let are : c.needers-acts.result.now ≡ needers_of acts p = c.needers-acts.ensures.value in
     let same : c.settle_nearest.new.self.costs ≡ costs = c.in-Some.ensures.costs in
     let cost : c.cost.result ≡ get_or costs p 0 = c.cost.ensures ∙ ap (λ (l : List ℕ). get_or l p 0) same in
     let left_now : (a : ℕ) → get_or now_left a 0 ≡ cond (lists (needers_of acts p) a) (get_or left a 0 - 1) (get_or left a 0) =

@@ -1,0 +1,5 @@
+use Rattle.std.proofs.Common.{◌≡◌, map, take}
+use Rattle.wp_task.proofs.tables.preconditions.Given as goal
+
+abbrev pub invariant-loop-act : goal.invariant-loop-act
+invariant-loop-act l = l.flat ≡ map (λ act. act.pre) (take l.act-index l.act-items)
