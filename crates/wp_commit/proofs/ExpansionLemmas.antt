@@ -25,7 +25,7 @@ use Rattle.wp_nodes.specs.Links.{along}
 use Rattle.wp_plain.specs.declared.settings.Settings.{Settings}
 use Rattle.wp_plain.specs.declared.ending.How.TheVariants.{Words}
 use Rattle.wp_plain.specs.Nodes.{Node, Path, no_path, path_at, extended, generated_in, states_kept}
-use Rattle.wp_plain.specs.Pairs.{with_pair, pairs_in, tuple_count, exceeds}
+use Rattle.wp_plain.specs.Pairs.{all_tuples, with_pair, pairs_in, tuple_count, exceeds}
 use Rattle.wp_plain.specs.Expansion.{successors_of, unseen, fresh_of, node_of, borns_of, event_of}
 use Rattle.wp_plain.specs.Run.{Moment, Outcome, expanded, expand}
 use Rattle.wp_plain.specs.Run.Outcome.{Goes, Ends}
@@ -60,11 +60,11 @@ module _ (task : PlanningTask) (settings : Settings) (m : Moment) (node : Node) 
   tested b = elim b as (λ _. Outcome) [ true ↦ Ends (Words (length (pairs_in (all_at task m node)))) | false ↦ Goes after ]
 
   pub expand-ends : exceeds settings.words (length (pairs_in (all_at task m node))) (tuple_count settings.width task.atoms) ≡ true →
-      expand task settings m node ≡ Ends (Words (length (pairs_in (all_at task m node))))
+      expand task settings (all_tuples task settings) m node ≡ Ends (Words (length (pairs_in (all_at task m node))))
   expand-ends many = ap tested many
 
   pub expand-goes : exceeds settings.words (length (pairs_in (all_at task m node))) (tuple_count settings.width task.atoms) ≡ false →
-      expand task settings m node ≡ Goes after
+      expand task settings (all_tuples task settings) m node ≡ Goes after
   expand-goes few = ap tested few
 
 -- ---- kept nodes and nodes of the definition
@@ -347,7 +347,7 @@ module _ (task : PlanningTask) (settings : Settings) (s : Searched) (tables : No
   all-at-are = all-are task settings s tables m node number at ev.linked k ev.there ev.named ev.law brood fresh ev.brood_is ev.fresh_is
 
   pub words-end : exceeds settings.words (length tables.tables + length pairs) (tuple_count settings.width task.atoms) ≡ true →
-      expand task settings m node ≡ Ends (Words (length tables.tables + length pairs))
+      expand task settings (all_tuples task settings) m node ≡ Ends (Words (length tables.tables + length pairs))
   words-end many =
       expand-ends task settings m node (ap (λ i. exceeds settings.words i (tuple_count settings.width task.atoms)) (sym needed-length) ∙ many)
       ∙ ap (λ (i : ℕ). Ends (Words i)) (sym needed-length)
@@ -407,7 +407,7 @@ module _ (task : PlanningTask) (settings : Settings) (s : Searched) (tables : No
       IsCommitted settings number k.mark.track newborns repeats s later →
       StandsFor words (map birth_of (generated_in m.nodes ++ all_numbered s.numbered fresh)) → keys_of words.tables ≡ keys_of tables.tables ++ pairs →
       words.index ≡ tables.index → words.limit ≡ tables.limit →
-      (next : Moment) × StandsAt task settings later words next × (expand task settings m node ≡ Goes next)
+      (next : Moment) × StandsAt task settings later words next × (expand task settings (all_tuples task settings) m node ≡ Goes next)
       × (next.events ≡ m.events ++ event_as settings k repeats newborns ∷ [])
   goes words newborns repeats later index same few newborns_is repeats_is spare small committed births keys words_index limit =
       let n = length m.nodes in

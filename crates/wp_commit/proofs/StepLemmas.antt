@@ -12,6 +12,7 @@ use Rattle.wp_plain.specs.declared.settings.Settings.{Settings}
 use Rattle.wp_plain.specs.declared.ending.How.{How}
 use Rattle.wp_plain.specs.declared.ending.How.TheVariants.{Found, Budget}
 use Rattle.wp_plain.specs.Nodes.{Node, path_at}
+use Rattle.wp_plain.specs.Pairs.{all_tuples}
 use Rattle.wp_plain.specs.Run.{Moment, Outcome, expand, look_at}
 use Rattle.wp_plain.specs.Run.Outcome.{Ends}
 use Rattle.wp_commit.specs.declared.searched.Searched.{Searched}
@@ -26,13 +27,13 @@ Steps-same task settings outcome other m places later words told (Some end) same
 
 -- where the budget is spent
 pub look_at-spent : (task : PlanningTask) (settings : Settings) (m : Moment) (node : Node) → (node.generated.counters.0 == 0) ≡ false →
-    (length m.events == settings.budget) ≡ true → look_at task settings m (Some node) ≡ Ends Budget
+    (length m.events == settings.budget) ≡ true → look_at task settings (all_tuples task settings) m (Some node) ≡ Ends Budget
 look_at-spent task settings m node unmet spent =
     ap (λ b. elim b as (λ _. Outcome) [
       | true ↦ Ends (Found (path_at m.paths node.generated.number).acts)
-      | false ↦ elim (length m.events == settings.budget) as (λ _. Outcome) [ true ↦ Ends Budget | false ↦ expand task settings m node ]
+      | false ↦ elim (length m.events == settings.budget) as (λ _. Outcome) [ true ↦ Ends Budget | false ↦ expand task settings (all_tuples task settings) m node ]
     ]) unmet
-    ∙ ap (λ b. elim b as (λ _. Outcome) [ true ↦ Ends Budget | false ↦ expand task settings m node ]) spent
+    ∙ ap (λ b. elim b as (λ _. Outcome) [ true ↦ Ends Budget | false ↦ expand task settings (all_tuples task settings) m node ]) spent
 
 -- the plans of a moment follow the links of the kept nodes
 pub plans-follow : (task : PlanningTask) (nodes : Keeping) (m : Moment) → AreKept task nodes m → FollowLinks nodes.kept (plans_in m.paths)

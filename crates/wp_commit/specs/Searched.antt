@@ -24,7 +24,7 @@ use Rattle.wp_plain.specs.declared.settings.Settings.{Settings}
 use Rattle.wp_plain.specs.declared.ending.Counts.{Counts}
 use Rattle.wp_plain.specs.declared.ending.How.{How}
 use Rattle.wp_plain.specs.Nodes.{Node, Path, path_at, generated_in}
-use Rattle.wp_plain.specs.Pairs.{pairs_in, tuple_count, exceeds}
+use Rattle.wp_plain.specs.Pairs.{all_tuples, pairs_in, tuple_count, exceeds}
 use Rattle.wp_plain.specs.Run.{Moment, Outcome, counts_of, run_from, run}
 use Rattle.wp_plain.specs.Run.Outcome.{Goes, Ends}
 use Rattle.wp_plain.specs.Explored.{track_at}
@@ -166,7 +166,7 @@ StepsAt task settings outcome number s tables places later words told how = (m :
 abbrev pub RunsFrom : PlanningTask → Settings → Searched → NoveltyTables → List Place
     → Searched → NoveltyTables → List Place → How → Type 0
 RunsFrom task settings s tables places later words told how = (m : Moment) → StandsAt task settings s tables m →
-    (end : Moment) × HoldsAt task settings later words end × (run_from task settings (settings.budget + 1) m ≡ (how, end))
+    (end : Moment) × HoldsAt task settings later words end × (run_from task settings (all_tuples task settings) (settings.budget + 1) m ≡ (how, end))
     × AreTold m.events end.events places told
 
 -- the counts are those of each moment that the search stands for
@@ -178,4 +178,4 @@ AreCountsOf task settings s tables counts = (m : Moment) → HoldsAt task settin
 abbrev pub LeavesTables : PlanningTask → Settings → NoveltyTables → Type 0
 LeavesTables task settings tables = MatchBool (exceeds settings.words 1 (tuple_count settings.width task.atoms))
     (tables.tables ≡ [])
-    (AreTables task settings tables (run task settings).1.nodes)
+    (AreTables task settings tables (run task settings (all_tuples task settings)).1.nodes)

@@ -7,6 +7,7 @@ ghost use Rattle.wp_plain.specs.Places.{places_in};
 ghost use Rattle.wp_nodes.specs.KeptNodes.{node_of, AreLinked, IsKept};
 ghost use Rattle.wp_plain.specs.Ranges.{AreInRange};
 ghost use Rattle.wp_plain.specs.Laws.{AnswersFor};
+ghost use Rattle.wp_plain.specs.Pairs.{all_tuples};
 ghost use Rattle.wp_plain.specs.Run.{expand, look_at, step, opening, run, counts_of, ending_of};
 ghost use Rattle.wp_commit.specs.Newborns.{AreNew, IsCommitted};
 ghost use Rattle.wp_commit.specs.Searched.{StandsAtSome, IsTakenAtSome, IsTakenAndTold, IsBroodOf, StepsFrom, StepsAt, RunsFrom, LeavesTables};
@@ -24,7 +25,7 @@ use std::thread::Threads;
 use wp_count::{Child, brood_of, counters_are_carried};
 use wp_nodes::Kept;
 use wp_novel::Tables;
-use wp_plain::{Counts, Ending, How, Settings, exceeds, tuple_count};
+use wp_plain::{Counts, Ending, How, Settings, endings_answer, exceeds, tuple_count};
 use wp_succ::Plain;
 use wp_task::Task;
 use wp_tuples::TupleIndex;
@@ -41,11 +42,11 @@ pub fn search<R: Threads + Sync>(
 ) -> Result<Ending, AllocError>
     requires range { AreInRange settings.now }
     requires untold { AreUntold (places_in kind until told watchers.old) }
-    ensures ending { IfOk result (λ ending. ending ≡ ending_of task.now settings.now) }
-    ensures answers { IfOk result (AnswersFor task.now settings.now) }
+    ensures ending { IfOk result (λ ending. ending ≡ ending_of task.now settings.now (all_tuples task.now settings.now)) }
+    ensures answers { IfOk result (AnswersFor task.now settings.now (all_tuples task.now settings.now)) }
     ensures events { OnOk result ((list : List (WatchKind × Option ℕ)) →
         AreAfter list [] (places_in kind until told watchers.old) →
-        AreAfter list (run task.now settings.now).1.events (places_in kind until told watchers.new)) }
+        AreAfter list (run task.now settings.now (all_tuples task.now settings.now)).1.events (places_in kind until told watchers.new)) }
 {
     let index = TupleIndex::new(task.atoms(), settings.width);
     let mut tables = Tables::new(alloc, index, settings.words);
@@ -67,14 +68,16 @@ pub fn search_in<R: Threads + Sync>(
     requires empty { tables.old.tables ≡ [] }
     requires collected { tables.old.last ≡ None }
     requires untold { AreUntold (places_in kind until told watchers.old) }
-    ensures ending { IfOk result (λ ending. ending ≡ ending_of task.now settings.now) }
-    ensures answers { IfOk result (AnswersFor task.now settings.now) }
+    ensures ending { IfOk result (λ ending. ending ≡ ending_of task.now settings.now (all_tuples task.now settings.now)) }
+    ensures answers { IfOk result (AnswersFor task.now settings.now (all_tuples task.now settings.now)) }
     ensures tables { OnOk result (LeavesTables task.now settings.now tables.new) }
     ensures events { OnOk result ((list : List (WatchKind × Option ℕ)) →
         AreAfter list [] (places_in kind until told watchers.old) →
-        AreAfter list (run task.now settings.now).1.events (places_in kind until told watchers.new)) }
+        AreAfter list (run task.now settings.now (all_tuples task.now settings.now)).1.events (places_in kind until told watchers.new)) }
 {
     let _ = rt;
+    // By this law an ending of the run answers for its task.
+    endings_answer();
     if exceeds(settings.words, 1, tuple_count(settings.width, task.atoms())) {
         return Ok(Ending {
             how: How::Words { pairs: 1 },
@@ -137,7 +140,7 @@ fn step(
 ) -> Result<Option<How>, AllocError>
     requires range { AreInRange settings.now }
     requires stands { StandsAtSome task.now settings.now searched.old tables.old (places_in kind until told watchers.old) }
-    ensures { IfOk result (StepsFrom task.now settings.now (step task.now settings.now)
+    ensures { IfOk result (StepsFrom task.now settings.now (step task.now settings.now (all_tuples task.now settings.now))
         searched.old tables.old (places_in kind until told watchers.old)
         searched.new tables.new (places_in kind until told watchers.new)) }
 {
@@ -160,7 +163,7 @@ fn look_at(
 ) -> Result<Option<How>, AllocError>
     requires range { AreInRange settings.now }
     requires taken { IsTakenAndTold task.now settings.now searched.old tables.old number (places_in kind until told watchers.old) }
-    ensures { IfOk result (StepsAt task.now settings.now (λ m node. look_at task.now settings.now m (Some node)) number
+    ensures { IfOk result (StepsAt task.now settings.now (λ m node. look_at task.now settings.now (all_tuples task.now settings.now) m (Some node)) number
         searched.old tables.old (places_in kind until told watchers.old)
         searched.new tables.new (places_in kind until told watchers.new)) }
 {
@@ -187,7 +190,7 @@ fn expand(
     requires range { AreInRange settings.now }
     requires taken { IsTakenAndTold task.now settings.now searched.old tables.old number (places_in kind until told watchers.old) }
     requires spare { searched.old.expanded < settings.now.budget }
-    ensures { IfOk result (StepsAt task.now settings.now (expand task.now settings.now) number
+    ensures { IfOk result (StepsAt task.now settings.now (expand task.now settings.now (all_tuples task.now settings.now)) number
         searched.old tables.old (places_in kind until told watchers.old)
         searched.new tables.new (places_in kind until told watchers.new)) }
 {

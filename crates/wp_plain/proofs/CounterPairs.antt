@@ -124,7 +124,7 @@ traced-few task m traced = pairs_few (length task.goals) (length task.init) (gen
     (subst (λ g. g ≤ length task.goals) (sym here.unmet) few, here.few))
 
 pub pairs_are_few : PairsAreFew
-pairs_are_few task settings fits =
-    let end = ended task settings (λ m. Unit {0}) tt (λ m node traced there holds x. tt) in
-    subst (λ n. length (pairs_in (generated_in (run task settings).1.nodes)) ≤ (length task.goals + 1) * (n + 1)) fits.init_size
-    (traced-few task (run task settings).1 end.traced)
+pairs_are_few task settings tuples fits =
+    let end = ended task settings tuples (λ m. Unit {0}) tt (λ m node traced there holds x. tt) in
+    subst (λ n. length (pairs_in (generated_in (run task settings tuples).1.nodes)) ≤ (length task.goals + 1) * (n + 1)) fits.init_size
+    (traced-few task (run task settings tuples).1 end.traced)

@@ -111,15 +111,15 @@ open-opening task settings = record {
   each = λ x. elim [ inl same ↦ inl (ap (λ n. n.waits) same) | inr none ↦ absurd none ];
 }
 
-pub keeps-open : (task : PlanningTask) (settings : Settings) → settings.search ≡ F5 → Keeps task settings (IsOpen task)
-keeps-open task settings f5 m node traced there before x = open-next task settings f5 m node traced there before x.unmet
+pub keeps-open : (task : PlanningTask) (settings : Settings) (tuples : ℕ) → settings.search ≡ F5 → Keeps task settings tuples (IsOpen task)
+keeps-open task settings tuples f5 m node traced there before x = open-next task settings f5 m node traced there before x.unmet
 
 -- ---- the laws
 pub emptied_is_closed : EmptiedIsClosed
-emptied_is_closed task settings f5 is =
-    let end = ended task settings (IsOpen task) (open-opening task settings) (keeps-open task settings f5) in
-    let nodes = (run task settings).1.nodes in
-    let empty : IsEnd task settings (run task settings).1 Emptied = subst (IsEnd task settings (run task settings).1) is end.reason in
+emptied_is_closed task settings tuples f5 is =
+    let end = ended task settings tuples (IsOpen task) (open-opening task settings) (keeps-open task settings tuples f5) in
+    let nodes = (run task settings tuples).1.nodes in
+    let empty : IsEnd task settings tuples (run task settings tuples).1 Emptied = subst (IsEnd task settings tuples (run task settings tuples).1) is end.reason in
     let done_at : (x : Node) → In x nodes → IsDone task nodes x = λ x among. by x (none_waits nodes empty x among) (end.holds.each x among) in
     record {
       start = Contains-from_In task.init (states_kept nodes) end.holds.start;
@@ -136,7 +136,7 @@ emptied_is_closed task settings f5 is =
           ((end.traced.each found.0 found.1).unmet
           ∙ none_unmet task.goals found.0.generated.state (ap (λ s. list_all (has s) task.goals) (sym found.2) ∙ all)));
     } where
-      by : (x : Node) → x.waits ≡ false → (x.waits ≡ true) ⊎ IsDone task (run task settings).1.nodes x → IsDone task (run task settings).1.nodes x
+      by : (x : Node) → x.waits ≡ false → (x.waits ≡ true) ⊎ IsDone task (run task settings tuples).1.nodes x → IsDone task (run task settings tuples).1.nodes x
       by x rests (inl waits) = absurd (both_ways x.waits rests waits)
       by x rests (inr is_done) = is_done
 
@@ -162,5 +162,5 @@ closed_has_no_plan task states closed plan = by (leads_to task.acts task.init pl
   by (Some last) leads = closed.unmet last (stays_within task states closed plan task.init last closed.start leads)
 
 pub emptied_has_no_plan : EmptiedHasNoPlan
-emptied_has_no_plan task settings f5 is =
-    closed_has_no_plan task (states_kept (run task settings).1.nodes) (emptied_is_closed task settings f5 is)
+emptied_has_no_plan task settings tuples f5 is =
+    closed_has_no_plan task (states_kept (run task settings tuples).1.nodes) (emptied_is_closed task settings tuples f5 is)

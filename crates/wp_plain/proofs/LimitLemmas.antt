@@ -54,8 +54,8 @@ filter_alike p q [] same = refl
 filter_alike p q (x ∷ xs) same =
     λ j. cond (same x (inl refl) j) (x ∷ filter_alike p q xs (λ y later. same y (inr later)) j) (filter_alike p q xs (λ y later. same y (inr later)) j)
 
-pub keeps-spent : (task : PlanningTask) (settings : Settings) → Keeps task settings AreSpent
-keeps-spent task settings m node traced there before x =
+pub keeps-spent : (task : PlanningTask) (settings : Settings) (tuples : ℕ) → Keeps task settings tuples AreSpent
+keeps-spent task settings tuples m node traced there before x =
     let number = node.generated.number in
     let earlier = set m.nodes number (left node) in
     let new = nodes_at task settings m node in
@@ -90,21 +90,20 @@ some_waits nodes x there waits = by (filter (λ n. n.waits) nodes) (In-filter (�
   by (y ∷ ys) among = omega arith
 
 pub expansions_are_few : ExpansionsAreFew
-expansions_are_few task settings fits kbfws =
-    let end = ended task settings AreSpent (spent-opening task settings) (keeps-spent task settings) in
-    let m = (run task settings).1 in
+expansions_are_few task settings tuples counted place fits kbfws counting =
+    let end = ended task settings tuples AreSpent (spent-opening task settings) (keeps-spent task settings tuples) in
+    let m = (run task settings tuples).1 in
     let few : length m.events + length (filter (λ n. n.waits) m.nodes) ≤ length (filter (λ n. n.kept) m.nodes) = end.holds.few in
-    let kept : length (filter (λ n. n.kept) m.nodes) ≤ 1 + length (pairs_in (generated_in m.nodes)) * tuple_count settings.width (length task.init) =
-    kept_at_end task settings kbfws in
-    let most : length m.events ≤ 1 + length (pairs_in (generated_in m.nodes)) * tuple_count settings.width (length task.init) = omega arith in
-    subst (λ n. length m.events ≤ 1 + length (pairs_in (generated_in m.nodes)) * tuple_count settings.width n) fits.init_size most
+    let kept : length (filter (λ n. n.kept) m.nodes) ≤ 1 + length (pairs_in (generated_in m.nodes)) * tuples =
+    kept_at_end task settings tuples counted place fits kbfws counting in
+    omega arith
 
 -- ---- what has come about at a limit
 pub budget_is_spent : BudgetIsSpent
-budget_is_spent task settings is =
-    let end = ended task settings (λ m. Unit {0}) tt (λ m node traced there holds x. tt) in
-    let m = (run task settings).1 in
-    let reason : IsEnd task settings m Budget = subst (IsEnd task settings m) is end.reason in
+budget_is_spent task settings tuples is =
+    let end = ended task settings tuples (λ m. Unit {0}) tt (λ m node traced there holds x. tt) in
+    let m = (run task settings tuples).1 in
+    let reason : IsEnd task settings tuples m Budget = subst (IsEnd task settings tuples m) is end.reason in
     let node = reason.0 in
     let some : 0 < node.generated.counters.0 = positive node.generated.counters.0 reason.2 in
     (reason.3, (node, Contains-from_In node m.nodes (first_there m.nodes node reason.1), first_waits m.nodes node reason.1, some)) where
@@ -113,25 +112,24 @@ budget_is_spent task settings is =
       positive (suc n) other = omega arith
 
 pub words_are_exceeded : WordsAreExceeded
-words_are_exceeded task settings pairs is =
-    let end = ended task settings (λ m. Unit {0}) tt (λ m node traced there holds x. tt) in
-    let reason : IsEnd task settings (run task settings).1 (Words pairs) = subst (IsEnd task settings (run task settings).1) is end.reason in
-    ltb-true settings.words (pairs * tuple_count settings.width task.atoms) reason.0
+words_are_exceeded task settings tuples pairs is =
+    let end = ended task settings tuples (λ m. Unit {0}) tt (λ m node traced there holds x. tt) in
+    let reason : IsEnd task settings tuples (run task settings tuples).1 (Words pairs) = subst (IsEnd task settings tuples (run task settings tuples).1) is end.reason in
+    ltb-true settings.words (pairs * tuples) reason.0
 
 -- ---- limits that are enough
 pub budget_is_enough : BudgetIsEnough
-budget_is_enough task settings fits kbfws enough is =
-    let end = ended task settings AreSpent (spent-opening task settings) (keeps-spent task settings) in
-    let m = (run task settings).1 in
-    let reason : IsEnd task settings m Budget = subst (IsEnd task settings m) is end.reason in
+budget_is_enough task settings tuples counted place fits kbfws counting enough is =
+    let end = ended task settings tuples AreSpent (spent-opening task settings) (keeps-spent task settings tuples) in
+    let m = (run task settings tuples).1 in
+    let reason : IsEnd task settings tuples m Budget = subst (IsEnd task settings tuples m) is end.reason in
     let one : 1 ≤ length (filter (λ n. n.waits) m.nodes) =
     some_waits m.nodes reason.0 (first_there m.nodes reason.0 reason.1) (first_waits m.nodes reason.0 reason.1) in
     let few : length m.events + length (filter (λ n. n.waits) m.nodes) ≤ length (filter (λ n. n.kept) m.nodes) = end.holds.few in
-    let kept : length (filter (λ n. n.kept) m.nodes) ≤ 1 + length (pairs_in (generated_in m.nodes)) * tuple_count settings.width task.atoms =
-    subst (λ n. length (filter (λ n. n.kept) m.nodes) ≤ 1 + length (pairs_in (generated_in m.nodes)) * tuple_count settings.width n) fits.init_size
-    (kept_at_end task settings kbfws) in
+    let kept : length (filter (λ n. n.kept) m.nodes) ≤ 1 + length (pairs_in (generated_in m.nodes)) * tuples =
+    kept_at_end task settings tuples counted place fits kbfws counting in
     let spent : length m.events ≡ settings.budget = reason.3 in
-    let room : 1 + length (pairs_in (generated_in m.nodes)) * tuple_count settings.width task.atoms ≤ settings.budget = enough in
+    let room : 1 + length (pairs_in (generated_in m.nodes)) * tuples ≤ settings.budget = enough in
     absurd (omega arith)
 
 -- ---- the states that BFWS(f5) keeps
@@ -180,18 +178,18 @@ pub record AreTidy (task : PlanningTask) (m : Moment) : Type 0 where
   pub spent : AreSpent m
   pub apart : AreApart (states_kept m.nodes)
 
-keeps-tidy : (task : PlanningTask) (settings : Settings) → settings.search ≡ F5 → Keeps task settings (AreTidy task)
-keeps-tidy task settings f5 m node traced there before x =
+keeps-tidy : (task : PlanningTask) (settings : Settings) (tuples : ℕ) → settings.search ≡ F5 → Keeps task settings tuples (AreTidy task)
+keeps-tidy task settings tuples f5 m node traced there before x =
     let after = next task settings m node traced.numbered there in
     let new = nodes_at task settings m node in
-    let later = keeps-open task settings f5 m node traced there before.open_nodes x in
+    let later = keeps-open task settings tuples f5 m node traced there before.open_nodes x in
     let kept : (y : Node) → In y new → y.kept ≡ true = λ y among.
     later.kept y (In-append_right (set m.nodes node.generated.number (left node)) new y among) in
     let states : states_kept new ≡ map (λ s. s.state) (fresh_at task m node) =
     kept-all new kept ∙ states-children task settings (all_at task m node) (path_at m.paths node.generated.number).states (length m.nodes) (fresh_at task m node) in
     record {
       open_nodes = later;
-      spent = keeps-spent task settings m node traced there before.spent x;
+      spent = keeps-spent task settings tuples m node traced there before.spent x;
       apart = subst AreApart (sym (states-next task settings m node traced.numbered there))
           (AreApart-append (states_kept m.nodes) (states_kept new) before.apart
           (subst AreApart (sym states) (unseen-apart (λ s. s.state) (states_kept m.nodes) (successors_of task.acts node.generated.state)))
@@ -230,13 +228,13 @@ not_exceeded words pairs most tuples few room over =
     omega arith
 
 pub limits_are_enough : LimitsAreEnough
-limits_are_enough task settings states fits f5 all budget words =
-    by (run task settings).0 end.reason refl where
-      end : IsEnded task settings (AreTidy task) (run task settings)
-      end = ended task settings (AreTidy task) (tidy-opening task settings) (keeps-tidy task settings f5)
+limits_are_enough task settings tuples states fits f5 all budget words =
+    by (run task settings tuples).0 end.reason refl where
+      end : IsEnded task settings tuples (AreTidy task) (run task settings tuples)
+      end = ended task settings tuples (AreTidy task) (tidy-opening task settings) (keeps-tidy task settings tuples f5)
 
       m : Moment
-      m = (run task settings).1
+      m = (run task settings tuples).1
 
       most : ℕ
       most = (length task.goals + 1) * (task.atoms + 1)
@@ -255,8 +253,8 @@ limits_are_enough task settings states fits f5 all budget words =
           subst (λ n. pairs ≤ (length task.goals + 1) * (n + 1)) fits.init_size
           (subst (λ n. n ≤ (length task.goals + 1) * (length task.init + 1)) same few)
 
-      by : (how : How) → IsEnd task settings m how → (run task settings).0 ≡ how →
-          ((plan : List ℕ) × ((run task settings).0 ≡ Found plan)) ⊎ ((run task settings).0 ≡ Emptied)
+      by : (how : How) → IsEnd task settings tuples m how → (run task settings tuples).0 ≡ how →
+          ((plan : List ℕ) × ((run task settings tuples).0 ≡ Found plan)) ⊎ ((run task settings tuples).0 ≡ Emptied)
       by (Found plan) reason is = inl (plan, is)
       by Emptied reason is = inr is
       by Budget reason is =
@@ -268,4 +266,4 @@ limits_are_enough task settings states fits f5 all budget words =
           let spent : length m.events ≡ settings.budget = reason.3 in
           absurd (omega arith)
       by (Words pairs) reason is =
-          absurd (not_exceeded settings.words pairs most (tuple_count settings.width task.atoms) (expected pairs reason.1) words reason.0)
+          absurd (not_exceeded settings.words pairs most tuples (expected pairs reason.1) words reason.0)

@@ -152,20 +152,20 @@ traced-opening task settings =
 
 -- ---- runs
 -- what each expansion keeps of moments whose nodes are traced
-abbrev pub Keeps : PlanningTask → Settings → (Moment → Type 0) → Type 0
-Keeps task settings P = (m : Moment) (node : Node) (traced : AreTraced task m) (there : In node m.nodes) → P m →
-    IsExpansion task settings m (next task settings m node traced.numbered there) node →
+abbrev pub Keeps : PlanningTask → Settings → ℕ → (Moment → Type 0) → Type 0
+Keeps task settings tuples P = (m : Moment) (node : Node) (traced : AreTraced task m) (there : In node m.nodes) → P m →
+    IsExpansion task settings tuples m (next task settings m node traced.numbered there) node →
     P (next task settings m node traced.numbered there)
 
-pub record IsEnded (task : PlanningTask) (settings : Settings) (P : Moment → Type 0) (end : How × Moment) : Type 0 where
+pub record IsEnded (task : PlanningTask) (settings : Settings) (tuples : ℕ) (P : Moment → Type 0) (end : How × Moment) : Type 0 where
   pub traced : AreTraced task end.1
   pub holds : P end.1
-  pub reason : IsEnd task settings end.1 end.0
+  pub reason : IsEnd task settings tuples end.1 end.0
 
-pub ended : (task : PlanningTask) (settings : Settings) (P : Moment → Type 0) → P (opening task settings) → Keeps task settings P →
-    IsEnded task settings P (run task settings)
-ended task settings P start keep =
-    let end = at_run task settings (λ m. AreTraced task m × P m)
+pub ended : (task : PlanningTask) (settings : Settings) (tuples : ℕ) (P : Moment → Type 0) → P (opening task settings) → Keeps task settings tuples P →
+    IsEnded task settings tuples P (run task settings tuples)
+ended task settings tuples P start keep =
+    let end = at_run task settings tuples (λ m. AreTraced task m × P m)
     (λ m later node holds x.
     let there = first_there m.nodes node x.first in
     let after = next task settings m node holds.0.numbered there in

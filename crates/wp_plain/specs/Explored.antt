@@ -207,15 +207,15 @@ EndsAs task settings watchers end later how = (paths : List Path) × (events : L
     × StandsFor task settings watchers later paths events × (end ≡ (how, moment_of later.explored paths events))
 
 -- all the steps from each moment that the search stands for
-abbrev pub RunsFrom : PlanningTask → Settings → Watched → Watched → How → Type 0
-RunsFrom task settings s later how = (watchers : List (WatchKind × Option ℕ)) (paths : List Path) (events : List Event) →
+abbrev pub RunsFrom : PlanningTask → Settings → ℕ → Watched → Watched → How → Type 0
+RunsFrom task settings tuples s later how = (watchers : List (WatchKind × Option ℕ)) (paths : List Path) (events : List Event) →
     StandsFor task settings watchers s paths events →
-    EndsAs task settings watchers (run_from task settings (settings.budget + 1) (moment_of s.explored paths events)) later how
+    EndsAs task settings watchers (run_from task settings tuples (settings.budget + 1) (moment_of s.explored paths events)) later how
 
 -- the whole run, told to whoever the watchers are that were told nothing
-abbrev pub RunsWhole : PlanningTask → Settings → List Place → Watched → How → Type 0
-RunsWhole task settings places later how = (watchers : List (WatchKind × Option ℕ)) → AreAfter watchers [] places →
-    EndsAs task settings watchers (run task settings) later how
+abbrev pub RunsWhole : PlanningTask → Settings → ℕ → List Place → Watched → How → Type 0
+RunsWhole task settings tuples places later how = (watchers : List (WatchKind × Option ℕ)) → AreAfter watchers [] places →
+    EndsAs task settings watchers (run task settings tuples) later how
 
 -- the counts are those of each moment that the search stands for
 abbrev pub AreCountsOf : Explored → Counts → Type 0

@@ -11,7 +11,7 @@ use Rattle.wp_plain.specs.declared.ending.Ending.{Ending}
 use Rattle.wp_plain.specs.declared.ending.How.{How}
 use Rattle.wp_plain.specs.declared.ending.How.TheVariants.{Found, Emptied, Budget, Words}
 use Rattle.wp_plain.specs.Nodes.{Node, Path, Successor, path_at, extended, generated_in, states_kept, first_waiting}
-use Rattle.wp_plain.specs.Pairs.{pairs_in, tuple_count, exceeds}
+use Rattle.wp_plain.specs.Pairs.{pairs_in, exceeds}
 use Rattle.wp_plain.specs.Expansion.{successors_of, unseen, fresh_of, node_of, root_of, borns_of, event_of}
 
 -- a moment of the search: all numbered nodes by number, the paths to them, and the events so far
@@ -33,38 +33,39 @@ expanded m node repeats fresh nodes = record {
   events = m.events ++ event_of node repeats (borns_of fresh nodes) ∷ [];
 }
 
--- a node is expanded, unless the pairs of all nodes with its children want more words than the limit
-abbrev pub expand : PlanningTask → Settings → Moment → Node → Outcome
-expand task settings m node =
+-- a node is expanded, unless the pairs of all nodes with its children want more words than the limit; `tuples` is the
+-- number of the tuples that are counted, which are words for each pair
+abbrev pub expand : PlanningTask → Settings → ℕ → Moment → Node → Outcome
+expand task settings tuples m node =
     let successors = successors_of task.acts node.generated.state in
     let fresh = unseen (λ x. x.state) (states_kept m.nodes) successors in
     let children = fresh_of task (path_at m.paths node.generated.number).states (length m.nodes) fresh in
     let all = generated_in m.nodes ++ children in
     let pairs = length (pairs_in all) in
-    elim (exceeds settings.words pairs (tuple_count settings.width task.atoms)) [
+    elim (exceeds settings.words pairs tuples) [
       | true ↦ Ends (Words pairs)
       | false ↦ Goes (expanded m node (length successors - length fresh) fresh (map (node_of settings all) children))
     ]
 
 -- the goal test, then the budget, then the expansion
-abbrev pub look_at : PlanningTask → Settings → Moment → Option Node → Outcome
-look_at task settings m None = Ends Emptied
-look_at task settings m (Some node) = elim (node.generated.counters.0 == 0) [
+abbrev pub look_at : PlanningTask → Settings → ℕ → Moment → Option Node → Outcome
+look_at task settings tuples m None = Ends Emptied
+look_at task settings tuples m (Some node) = elim (node.generated.counters.0 == 0) [
   | true ↦ Ends (Found (path_at m.paths node.generated.number).acts)
   | false ↦ elim (length m.events == settings.budget) [
     | true ↦ Ends Budget
-    | false ↦ expand task settings m node
+    | false ↦ expand task settings tuples m node
   ]
 ]
 
-abbrev pub step : PlanningTask → Settings → Moment → Outcome
-step task settings m = look_at task settings m (first_waiting m.nodes)
+abbrev pub step : PlanningTask → Settings → ℕ → Moment → Outcome
+step task settings tuples m = look_at task settings tuples m (first_waiting m.nodes)
 
 -- at most so many steps; a run within its budget ends by one of them
-abbrev pub run_from : PlanningTask → Settings → ℕ → Moment → How × Moment
-run_from task settings zero m = (Budget, m)
-run_from task settings (suc steps) m = elim (step task settings m) [
-  | Goes next ↦ run_from task settings steps next
+abbrev pub run_from : PlanningTask → Settings → ℕ → ℕ → Moment → How × Moment
+run_from task settings tuples zero m = (Budget, m)
+run_from task settings tuples (suc steps) m = elim (step task settings tuples m) [
+  | Goes next ↦ run_from task settings tuples steps next
   | Ends how ↦ (how, m)
 ]
 
@@ -77,10 +78,10 @@ opening task settings = record {
 }
 
 -- the run: its ending, and the moment at which it ends
-abbrev pub run : PlanningTask → Settings → How × Moment
-run task settings = elim (exceeds settings.words 1 (tuple_count settings.width task.atoms)) [
+abbrev pub run : PlanningTask → Settings → ℕ → How × Moment
+run task settings tuples = elim (exceeds settings.words 1 tuples) [
   | true ↦ (Words 1, opening task settings)
-  | false ↦ run_from task settings (settings.budget + 1) (opening task settings)
+  | false ↦ run_from task settings tuples (settings.budget + 1) (opening task settings)
 ]
 
 abbrev pub counts_of : Moment → Counts
@@ -96,10 +97,10 @@ counts_of m = record {
 abbrev pub ending_from : How × Moment → Ending
 ending_from end = record { how = end.0; counts = counts_of end.1 }
 
-abbrev pub ending_of : PlanningTask → Settings → Ending
-ending_of task settings = ending_from (run task settings)
+abbrev pub ending_of : PlanningTask → Settings → ℕ → Ending
+ending_of task settings tuples = ending_from (run task settings tuples)
 
 -- the number of workers, and of nodes whose children are evaluated ahead, play no part
 abbrev pub WorkersPlayNoPart : Type 0
-WorkersPlayNoPart = (task : PlanningTask) (settings : Settings) (workers ahead : ℕ) →
-    run task (record settings { workers = workers; ahead = ahead }) ≡ run task settings
+WorkersPlayNoPart = (task : PlanningTask) (settings : Settings) (tuples workers ahead : ℕ) →
+    run task (record settings { workers = workers; ahead = ahead }) tuples ≡ run task settings tuples

@@ -23,7 +23,7 @@ mod telling;
 pub use ending::{Counts, Ending, How};
 pub use first::first_is_least;
 pub use laws::{
-    emptied_has_no_plan, expansions_are_few, found_is_plan, limits_are_enough, limits_are_reached,
+    emptied_has_no_plan, endings_answer, expansions_are_few, found_is_plan, limits_are_enough, limits_are_reached,
     tuples_are_counted,
 };
 pub use pairs::{exceeds, tuple_count};

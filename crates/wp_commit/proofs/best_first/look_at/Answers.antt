@@ -3,6 +3,7 @@ use Rattle.std.proofs.lemmas.Bool.{ne_eqb}
 use Rattle.std.proofs.lemmas.Result.{IfOk-weaker}
 use Rattle.wp_task.specs.Novelty.{Generated}
 use Rattle.wp_plain.specs.Places.{places_in}
+use Rattle.wp_plain.specs.Pairs.{all_tuples}
 use Rattle.wp_plain.specs.Run.{expand, look_at}
 use Rattle.wp_plain.proofs.RunLemmas.{look_at-found, look_at-expands}
 use Rattle.wp_commit.specs.Searched.{shown_kept, shown, plans_in, StepsAt}
@@ -21,7 +22,7 @@ returns-then-node_at-eq0 g c m node taken =
     let met : (node.generated.counters.0 == 0) ≡ true =
     ap (λ (p : Generated × ℕ). p.0.counters.0 == 0) (sym same) ∙ eq-eqb k.mark.g 0 c.if-node_at-eq0.true in (
       taken.holds,
-      look_at-found task settings m node c.in_ok-plan.plan met
+      look_at-found task settings (all_tuples task settings) m node c.in_ok-plan.plan met
           (c.in_ok-plan.ensures.links (plans_in m.paths) (plans-follow task s.nodes m taken.holds.nodes) ∙ ap (plans_in m.paths) (sym taken.named)),
       refl,
     )
@@ -56,15 +57,15 @@ returns g c =
     let before = places c.args.watchers.now in
     let told = places c.expand.new.watchers in
     IfOk-weaker c.expand.result
-    (λ how. StepsAt task settings (expand task settings) c.args.number s tables before later words told how)
-    (λ how. StepsAt task settings (λ m node. look_at task settings m (Some node)) c.args.number s tables before later words told how)
+    (λ how. StepsAt task settings (expand task settings (all_tuples task settings)) c.args.number s tables before later words told how)
+    (λ how. StepsAt task settings (λ m node. look_at task settings (all_tuples task settings) m (Some node)) c.args.number s tables before later words told how)
     (λ how went m node taken.
     let same : shown_kept k ≡ shown node =
     kept_is task settings s tables m taken.holds node k taken.there c.node_at.ensures.there (c.node_at.ensures.named ∙ sym taken.named) in
     let unmet : (node.generated.counters.0 == 0) ≡ false =
     ap (λ (p : Generated × ℕ). p.0.counters.0 == 0) (sym same) ∙ ne_eqb k.mark.g 0 c.if-node_at-eq0.false in
-    Steps-same task settings (look_at task settings m (Some node)) (expand task settings m node) m before later words told how
-    (look_at-expands task settings m node unmet
+    Steps-same task settings (look_at task settings (all_tuples task settings) m (Some node)) (expand task settings (all_tuples task settings) m node) m before later words told how
+    (look_at-expands task settings (all_tuples task settings) m node unmet
     (ne_eqb (length m.events) settings.budget (λ spent. c.if-searched-settings.false (taken.holds.counts.expanded ∙ spent))))
     (went m node taken))
     c.expand.ensures

@@ -1,6 +1,7 @@
 use Rattle.std.proofs.Common.{Some, refl, ap}
 use Rattle.std.proofs.lemmas.Result.{IfOk-weaker}
 use Rattle.wp_plain.specs.Places.{places_in}
+use Rattle.wp_plain.specs.Pairs.{all_tuples}
 use Rattle.wp_plain.specs.Run.{look_at, step}
 use Rattle.wp_commit.specs.Searched.{StepsFrom, StepsAt}
 use Rattle.wp_commit.proofs.TakeLemmas.{HoldsAt-queue, taken_first, none_taken}
@@ -27,12 +28,12 @@ returns-in-Some g c =
     let before = places c.args.watchers.now in
     let told = places c.look_at.new.watchers in
     IfOk-weaker c.look_at.result
-    (λ how. StepsAt task settings (λ m node. look_at task settings m (Some node)) c.in-Some.number (record s { queue = c.take.new.self }) tables before later words told how)
-    (λ how. StepsFrom task settings (step task settings) s tables before later words told how)
+    (λ how. StepsAt task settings (λ m node. look_at task settings (all_tuples task settings) m (Some node)) c.in-Some.number (record s { queue = c.take.new.self }) tables before later words told how)
+    (λ how. StepsFrom task settings (step task settings (all_tuples task settings)) s tables before later words told how)
     (λ how went m stands.
     let found = taken_first task settings s tables m c.take.new.self c.in-Some.number stands c.in-Some.ensures.taken in
-    Steps-same task settings (step task settings m) (look_at task settings m (Some found.node)) m before later words told how
-    (ap (look_at task settings m) found.first) (went m found.node found.taken))
+    Steps-same task settings (step task settings (all_tuples task settings) m) (look_at task settings (all_tuples task settings) m (Some found.node)) m before later words told how
+    (ap (look_at task settings (all_tuples task settings) m) found.first) (went m found.node found.taken))
     c.look_at.ensures
 
 pub returns-in-None : goal.returns-in-None
@@ -41,6 +42,6 @@ returns-in-None g c m stands =
     let settings = c.args.settings.now in
     let s = c.args.searched.now in (
       HoldsAt-queue task settings s c.args.tables.now m c.take.new.self stands.holds,
-      ap (look_at task settings m) (none_taken m.nodes s.queue stands.waiting c.in-None.ensures.empty.0),
+      ap (look_at task settings (all_tuples task settings) m) (none_taken m.nodes s.queue stands.waiting c.in-None.ensures.empty.0),
       refl,
     )

@@ -1,6 +1,7 @@
 use Rattle.std.proofs.Common.{◌≡◌, ◌+◌, ◌-◌, ℕ, suc, sym, ap, ◌∙◌, subst, arith}
 use Rattle.wp_watch.specs.Places.{AreAfter}
 use Rattle.wp_plain.specs.Places.{places_in}
+use Rattle.wp_plain.specs.Pairs.{all_tuples}
 use Rattle.wp_plain.specs.Run.{step, run_from}
 use Rattle.wp_plain.proofs.RunLemmas.{run_from-goes, run_from-ends}
 use Rattle.wp_commit.specs.Searched.{StepsFrom}
@@ -16,13 +17,13 @@ returns-in-Some g c m stands =
     let told = places c.step.new.watchers in
     let now = c.loop-step.invariant.ran m stands in
     let went =
-    subst (λ how. StepsFrom task settings (step task settings) c.loop-step.searched c.loop-step.tables before c.step.new.searched c.step.new.tables told how)
+    subst (λ how. StepsFrom task settings (step task settings (all_tuples task settings)) c.loop-step.searched c.loop-step.tables before c.step.new.searched c.step.new.tables told how)
     c.in-Some.is c.in_ok-how.ensures now.0 now.1 in
     let left : suc (settings.budget - c.loop-step._step) ≡ (settings.budget + 1) - c.loop-step._step = omega arith in (
       now.0,
       went.0,
-      sym (ap (λ (n : ℕ). run_from task settings n now.0) left ∙ now.2)
-          ∙ run_from-ends task settings (settings.budget - c.loop-step._step) now.0 c.in-Some.how went.1,
+      sym (ap (λ (n : ℕ). run_from task settings (all_tuples task settings) n now.0) left ∙ now.2)
+          ∙ run_from-ends task settings (all_tuples task settings) (settings.budget - c.loop-step._step) now.0 c.in-Some.how went.1,
       λ list after. subst (AreAfter list now.0.events) (sym went.2) (now.3 list after),
     )
 
@@ -35,7 +36,7 @@ loop-step-preserved g c =
     let before = places c.loop-step.watchers in
     let told = places c.step.new.watchers in
     let goes =
-    subst (λ how. StepsFrom task settings (step task settings) c.loop-step.searched c.loop-step.tables before c.step.new.searched c.step.new.tables told how)
+    subst (λ how. StepsFrom task settings (step task settings (all_tuples task settings)) c.loop-step.searched c.loop-step.tables before c.step.new.searched c.step.new.tables told how)
     c.in_default.is c.in_ok-how.ensures in
     let any = c.loop-step.invariant.stands in
     let first = goes any.0 any.1 in
@@ -48,9 +49,9 @@ loop-step-preserved g c =
           let went = goes now.0 now.1 in (
             went.0,
             went.1,
-            ap (λ (n : ℕ). run_from task settings n went.0) rest
-                ∙ (sym (run_from-goes task settings (settings.budget - c.loop-step._step) now.0 went.0 went.2)
-                ∙ (ap (λ (n : ℕ). run_from task settings n now.0) left ∙ now.2)),
+            ap (λ (n : ℕ). run_from task settings (all_tuples task settings) n went.0) rest
+                ∙ (sym (run_from-goes task settings (all_tuples task settings) (settings.budget - c.loop-step._step) now.0 went.0 went.2)
+                ∙ (ap (λ (n : ℕ). run_from task settings (all_tuples task settings) n now.0) left ∙ now.2)),
             λ list after. went.3 list (now.3 list after),
           );
     }
@@ -61,4 +62,4 @@ returns g c m stands =
     let settings = c.args.settings.now in
     let now = c.loop-step.invariant.ran m stands in
     let none : (settings.budget + 1) - c.loop-step._step ≡ 0 = omega arith in
-    (now.0, now.1.holds, sym now.2 ∙ ap (λ (n : ℕ). run_from task settings n now.0) none, now.3)
+    (now.0, now.1.holds, sym now.2 ∙ ap (λ (n : ℕ). run_from task settings (all_tuples task settings) n now.0) none, now.3)

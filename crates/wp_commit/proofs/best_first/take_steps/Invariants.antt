@@ -1,5 +1,6 @@
 use Rattle.std.proofs.Common.{◌≡◌, ◌+◌, ◌-◌}
 use Rattle.wp_plain.specs.Places.{places_in}
+use Rattle.wp_plain.specs.Pairs.{all_tuples}
 use Rattle.wp_plain.specs.Run.{Moment, run_from}
 use Rattle.wp_commit.specs.Searched.{StandsAt, StandsAtSome, AreTold}
 use Rattle.wp_commit.proofs.best_first.take_steps.Given as goal
@@ -12,6 +13,6 @@ invariant-loop-step g l =
       stands : StandsAtSome l.task l.settings l.searched l.tables (places l.watchers);
       ran : (m : Moment) → StandsAt l.task l.settings l.fn.searched l.fn.tables m →
           (now : Moment) × StandsAt l.task l.settings l.searched l.tables now
-          × (run_from l.task l.settings ((l.settings.budget + 1) - l._step) now ≡ run_from l.task l.settings (l.settings.budget + 1) m)
+          × (run_from l.task l.settings (all_tuples l.task l.settings) ((l.settings.budget + 1) - l._step) now ≡ run_from l.task l.settings (all_tuples l.task l.settings) (l.settings.budget + 1) m)
           × AreTold m.events now.events (places l.fn.watchers) (places l.watchers);
     }
