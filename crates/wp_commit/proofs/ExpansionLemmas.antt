@@ -24,15 +24,14 @@ use Rattle.wp_nodes.specs.KeptNodes.{AreLinked, HasParent, IsKept}
 use Rattle.wp_nodes.specs.Links.{along}
 use Rattle.wp_plain.specs.declared.settings.Settings.{Settings}
 use Rattle.wp_plain.specs.declared.ending.How.TheVariants.{Words}
-use Rattle.wp_plain.specs.Nodes.{Node, Path, no_path, path_at, extended, generated_in, states_kept}
+use Rattle.wp_plain.specs.Nodes.{Node, Path, no_path, path_at, extended, generated_in, states_kept, left}
 use Rattle.wp_plain.specs.Pairs.{all_tuples, with_pair, pairs_in, tuple_count, exceeds}
-use Rattle.wp_plain.specs.Expansion.{successors_of, unseen, fresh_of, node_of, borns_of, event_of}
-use Rattle.wp_plain.specs.Run.{Moment, Outcome, expanded, expand}
+use Rattle.wp_plain.specs.Expansion.{path_counters, successors_of, unseen, fresh_of, node_of, borns_of, event_of}
+use Rattle.wp_plain.specs.Run.{Moment, Outcome, expanded, expand, fresh_at, children_at, all_at, nodes_at, repeats_at}
 use Rattle.wp_plain.specs.Run.Outcome.{Goes, Ends}
 use Rattle.wp_plain.specs.Explored.{bare, child_pair, all_numbered, track_at}
-use Rattle.wp_plain.proofs.StepCases.{fresh_at, children_at, all_at, nodes_at, repeats_at}
 use Rattle.wp_plain.proofs.NumberLemmas.{number_below, kept-set}
-use Rattle.wp_plain.proofs.NextNodes.{left, node-at, generated-next, numbered-next, length-children}
+use Rattle.wp_plain.proofs.NextNodes.{node-at, generated-next, numbered-next, length-children}
 use Rattle.wp_plain.proofs.Pigeons.{AreApart}
 use Rattle.wp_plain.proofs.LimitLemmas.{unseen-apart, unseen-new}
 use Rattle.wp_plain.proofs.NodeLemmas.{pairs_in-numbered}
@@ -150,7 +149,7 @@ module _ (task : PlanningTask) (settings : Settings) (s : Searched) (tables : No
         ∙ (unseen-bare (map (λ x. x.state) s.nodes.kept) brood ∙ ap (map bare) (sym fresh_is))
 
     children-are : children_at task m node ≡ nums
-    children-are = ap (fresh_of task path.states n) fresh-are ∙ sym (fresh-numbered task path.states track n fresh evaluated)
+    children-are = ap (fresh_of (path_counters task) path.states n) fresh-are ∙ sym (fresh-numbered task path.states track n fresh evaluated)
 
     pub all-are : all_at task m node ≡ all
     all-are = ap (λ l. generated_in m.nodes ++ l) children-are
@@ -204,7 +203,7 @@ module _ (task : PlanningTask) (settings : Settings) (s : Searched) (tables : No
           ∙ (λ j. length-set m.nodes node.generated.number (left node) j + count j) where
             count : length (nodes_at task settings m node) ≡ length fresh
             count =
-                length-children task settings (all_at task m node) path n (fresh_at task m node)
+                length-children (path_counters task) settings (all_at task m node) path n (fresh_at task m node)
                 ∙ (ap length fresh-are ∙ length-map fresh bare)
 
       nodes-later : map shown_kept later.nodes.kept ≡ map shown (filter (λ x. x.kept) next.nodes)

@@ -11,7 +11,7 @@ use Rattle.wp_count.specs.declared.brood.Child.{Child}
 use Rattle.wp_count.specs.Broods.{with_achieved, base_child, later_child, child_of, children_of}
 use Rattle.wp_count.specs.Laws.{IsEvaluated}
 use Rattle.wp_plain.specs.Nodes.{Successor}
-use Rattle.wp_plain.specs.Expansion.{successors_of, unseen, generated_at, fresh_of}
+use Rattle.wp_plain.specs.Expansion.{path_counters, successors_of, unseen, generated_at, fresh_of}
 use Rattle.wp_plain.specs.Explored.{bare, numbered, all_numbered}
 
 map-made : {X Y Z : Type 0} (f : X → Y) (h : Y → Z) (g : X → Z) → ((x : X) → h (f x) ≡ g x) → (xs : List X) → map h (map f xs) ≡ map g xs
@@ -77,10 +77,10 @@ module _ {X : Type 0} (state : X → List Bool) where
 
 -- ---- counters
 pub fresh-numbered : (task : PlanningTask) (states : List (List Bool)) (track : List ℕ) (n : ℕ) (cs : List Child) →
-    All (IsEvaluated task states track) cs → all_numbered n cs ≡ fresh_of task states n (map bare cs)
+    All (IsEvaluated task states track) cs → all_numbered n cs ≡ fresh_of (path_counters task) states n (map bare cs)
 fresh-numbered task states track n [] evaluated = refl
 fresh-numbered task states track n (c ∷ cs) evaluated =
     let counters = (All-head (IsEvaluated task states track) c cs evaluated).counters in
-    let first : numbered n c ≡ generated_at task states n c.state =
+    let first : numbered n c ≡ generated_at (path_counters task) states n c.state =
     λ j. (let g : Generated = record { number = n; counters = (counters.unmet j, counters.relaxed j); state = c.state } in g) in
     λ j. first j ∷ fresh-numbered task states track (n + 1) cs (All-tail (IsEvaluated task states track) c cs evaluated) j

@@ -8,12 +8,12 @@ use Rattle.wp_task.proofs.Members.{In, In-from_Contains, Contains-from_In, In-ma
 use Rattle.wp_plain.specs.declared.settings.Search.TheVariants.{F5}
 use Rattle.wp_plain.specs.declared.settings.Settings.{Settings}
 use Rattle.wp_plain.specs.declared.ending.How.TheVariants.{Emptied}
-use Rattle.wp_plain.specs.Nodes.{Node, path_at, states_kept}
-use Rattle.wp_plain.specs.Expansion.{keeps, successors_of}
-use Rattle.wp_plain.specs.Run.{Moment, opening, run}
+use Rattle.wp_plain.specs.Nodes.{Node, path_at, states_kept, left}
+use Rattle.wp_plain.specs.Expansion.{path_counters, keeps, successors_of}
+use Rattle.wp_plain.specs.Run.{Moment, opening, run, fresh_at, all_at, nodes_at}
 use Rattle.wp_plain.specs.Laws.{IsClosed, EmptiedIsClosed, ClosedHasNoPlan, EmptiedHasNoPlan}
-use Rattle.wp_plain.proofs.StepCases.{none_waits, fresh_at, all_at, nodes_at, IsEnd}
-use Rattle.wp_plain.proofs.NextNodes.{IsNext, left, child_at, next, next_cases, states-next, successor_there, unseen_covers, child_for}
+use Rattle.wp_plain.proofs.StepCases.{none_waits, IsEnd}
+use Rattle.wp_plain.proofs.NextNodes.{IsNext, child_at, next, next_cases, states-next, successor_there, unseen_covers, child_for}
 use Rattle.wp_plain.proofs.NextNodes.IsNext.{expanded_one, older, child}
 use Rattle.wp_plain.proofs.TraceLemmas.{AreTraced, Keeps, ended}
 use Rattle.wp_plain.proofs.FoundLemmas.{none_unmet}
@@ -53,7 +53,7 @@ module _ (task : PlanningTask) (settings : Settings) (f5 : settings.search ≡ F
 
   child_kept : (y : Node) → In y (nodes_at task settings m node) → y.kept ≡ true
   child_kept y among =
-      let born = child_at task settings (all_at task m node) (path_at m.paths node.generated.number) (length m.nodes) (fresh_at task m node) y among in
+      let born = child_at (path_counters task) settings (all_at task m node) (path_at m.paths node.generated.number) (length m.nodes) (fresh_at task m node) y among in
       ap (λ n. n.kept) born.is ∙ ap (λ s. keeps s settings.width born.novelty) f5
 
   in_next : (s : List Bool) → In s (states_kept m.nodes) ⊎ In s (states_kept (nodes_at task settings m node)) → In s (states_kept after.nodes)
@@ -77,7 +77,7 @@ module _ (task : PlanningTask) (settings : Settings) (f5 : settings.search ≡ F
             In state (states_kept m.nodes) ⊎ In state (states_kept (nodes_at task settings m node))
         by (inl old) = inl old
         by (inr new) = inr (state_kept (nodes_at task settings m node) child_kept state
-            (child_for task settings (all_at task m node) (path_at m.paths node.generated.number) (length m.nodes) (fresh_at task m node) state new))
+            (child_for (path_counters task) settings (all_at task m node) (path_at m.paths node.generated.number) (length m.nodes) (fresh_at task m node) state new))
 
   open-next : IsOpen task m → (node.generated.counters.0 ≡ 0 → ⊥) → IsOpen task after
   open-next before unmet = record {

@@ -19,7 +19,7 @@ use Rattle.wp_plain.specs.declared.explored.Link.{Link}
 use Rattle.wp_plain.specs.declared.explored.Explored.{Explored}
 use Rattle.wp_plain.specs.Nodes.{Node, Path, Successor, path_at, extended, generated_in, states_kept}
 use Rattle.wp_plain.specs.Pairs.{with_pair, pairs_in, exceeds}
-use Rattle.wp_plain.specs.Expansion.{successors_of, unseen, fresh_of, node_of, borns_of, event_of}
+use Rattle.wp_plain.specs.Expansion.{path_counters, successors_of, unseen, fresh_of, node_of, borns_of, event_of}
 use Rattle.wp_plain.specs.Run.{Moment, Outcome, expanded, expand}
 use Rattle.wp_plain.specs.Run.Outcome.{Goes, Ends}
 use Rattle.wp_plain.specs.Explored.{no_node, node_at, way_at, track_at, path_over, states_before, lists_of, bare, all_numbered, child_pair, brood_at, without_waiting, expanded_at, event_at, moment_of, watched, Lists, AreReached, IsReached, StandsFor}
@@ -135,8 +135,8 @@ module _ (task : PlanningTask) (settings : Settings) (tuples : ℕ) (watchers : 
       let successors : successors_of task.acts node.generated.state ≡ map bare brood = sym (bare-children task node.generated.state way.mark track) in
       let fresh_is : unseen (λ x. x.state) kept (successors_of task.acts node.generated.state) ≡ map bare fresh =
       ap (unseen (λ x. x.state) kept) successors ∙ (unseen-bare kept brood ∙ ap (map bare) (sym expansion.unseen_is)) in
-      let children : fresh_of task (path_at paths node.generated.number).states n (unseen (λ x. x.state) kept (successors_of task.acts node.generated.state)) ≡ all_numbered n fresh =
-      (λ j. fresh_of task (path_at paths (number j)).states n (fresh_is j))
+      let children : fresh_of (path_counters task) (path_at paths node.generated.number).states n (unseen (λ x. x.state) kept (successors_of task.acts node.generated.state)) ≡ all_numbered n fresh =
+      (λ j. fresh_of (path_counters task) (path_at paths (number j)).states n (fresh_is j))
       ∙ sym (fresh-numbered task (path_at paths place).states track n fresh evaluated) in
       λ j. expand_by task settings tuples (moment_of e paths events) node (successors j) (fresh_is j) (children j)
 

@@ -17,15 +17,15 @@ use Rattle.wp_plain.specs.declared.settings.Search.TheVariants.{F5}
 use Rattle.wp_plain.specs.declared.settings.Settings.{Settings}
 use Rattle.wp_plain.specs.declared.ending.How.{How}
 use Rattle.wp_plain.specs.declared.ending.How.TheVariants.{Found, Emptied, Budget, Words}
-use Rattle.wp_plain.specs.Nodes.{Node, Successor, path_at, generated_in, states_kept, first_waiting}
+use Rattle.wp_plain.specs.Nodes.{Node, Successor, path_at, generated_in, states_kept, first_waiting, left}
 use Rattle.wp_plain.specs.Pairs.{pairs_in, tuple_count, exceeds}
-use Rattle.wp_plain.specs.Expansion.{borns_of, event_of, successors_of, unseen, fresh_of, node_of}
-use Rattle.wp_plain.specs.Run.{Moment, opening, run}
+use Rattle.wp_plain.specs.Expansion.{path_counters, borns_of, event_of, successors_of, unseen, fresh_of, node_of}
+use Rattle.wp_plain.specs.Run.{Moment, opening, run, all_at, fresh_at, nodes_at, repeats_at}
 use Rattle.wp_plain.specs.Laws.{ExpansionsAreFew, TuplesAreCounted, BudgetIsSpent, WordsAreExceeded, BudgetIsEnough, LimitsAreEnough}
 use Rattle.wp_plain.proofs.TupleLemmas.{ones, twos, half}
-use Rattle.wp_plain.proofs.StepCases.{first_there, first_waits, all_at, fresh_at, nodes_at, repeats_at, IsEnd}
+use Rattle.wp_plain.proofs.StepCases.{first_there, first_waits, IsEnd}
 use Rattle.wp_plain.proofs.NumberLemmas.{number_below, fewer-set}
-use Rattle.wp_plain.proofs.NextNodes.{child_at, generated-next, left, next, node-at, states-next}
+use Rattle.wp_plain.proofs.NextNodes.{child_at, generated-next, next, node-at, states-next}
 use Rattle.wp_plain.proofs.TraceLemmas.{AreTraced, Keeps, IsEnded, ended, traced-next}
 use Rattle.wp_plain.proofs.EmptiedLemmas.{IsOpen, keeps-open, node_kept, open-opening}
 use Rattle.wp_plain.proofs.CounterPairs.{traced-few}
@@ -67,7 +67,7 @@ keeps-spent task settings tuples m node traced there before x =
     ap length (filter-append (λ n. n.waits) earlier new) ∙ length-append (filter (λ n. n.waits) earlier) (filter (λ n. n.waits) new) in
     let alike : length (filter (λ n. n.waits) new) ≡ length (filter (λ n. n.kept) new) =
     ap length (filter_alike (λ n. n.waits) (λ n. n.kept) new (λ y among.
-    let born = child_at task settings (all_at task m node) (path_at m.paths number) (length m.nodes) (fresh_at task m node) y among in
+    let born = child_at (path_counters task) settings (all_at task m node) (path_at m.paths number) (length m.nodes) (fresh_at task m node) y among in
     ap (λ n. n.waits) born.is ∙ ap (λ n. n.kept) (sym born.is))) in
     let states : length (states_kept (earlier ++ new)) ≡ length (states_kept m.nodes) + length (states_kept new) =
     ap length (states-next task settings m node traced.numbered there) ∙ length-append (states_kept m.nodes) (states_kept new) in
@@ -169,7 +169,7 @@ kept-all (x ∷ nodes) kept =
     ∙ ap (λ l. x.generated.state ∷ l) (kept-all nodes (λ y later. kept y (inr later)))
 
 states-children : (task : PlanningTask) (settings : Settings) (all : List Generated) (states : List (List Bool)) (number : ℕ) (xs : List Successor) →
-    map (λ n. n.generated.state) (map (node_of settings all) (fresh_of task states number xs)) ≡ map (λ x. x.state) xs
+    map (λ n. n.generated.state) (map (node_of settings all) (fresh_of (path_counters task) states number xs)) ≡ map (λ x. x.state) xs
 states-children task settings all states number [] = refl
 states-children task settings all states number (x ∷ xs) = ap (λ l. x.state ∷ l) (states-children task settings all states (number + 1) xs)
 

@@ -120,12 +120,12 @@ has_tuple width atoms all x size small =
     answer
 
 -- later nodes change nothing
-pub fresh-later : (task : PlanningTask) (states : List (List Bool)) (number : ℕ) (xs : List Successor) (g : Generated) →
-    In g (fresh_of task states number xs) → number ≤ g.number
-fresh-later task states number [] g there = absurd there
-fresh-later task states number (x ∷ xs) g (inl same) = let is : g.number ≡ number = ap (λ y. y.number) same in omega arith
-fresh-later task states number (x ∷ xs) g (inr later) =
-    let rest : number + 1 ≤ g.number = fresh-later task states (number + 1) xs g later in omega arith
+pub fresh-later : (counters : List (List Bool) → ℕ × ℕ) (states : List (List Bool)) (number : ℕ) (xs : List Successor) (g : Generated) →
+    In g (fresh_of counters states number xs) → number ≤ g.number
+fresh-later counters states number [] g there = absurd there
+fresh-later counters states number (x ∷ xs) g (inl same) = let is : g.number ≡ number = ap (λ y. y.number) same in omega arith
+fresh-later counters states number (x ∷ xs) g (inr later) =
+    let rest : number + 1 ≤ g.number = fresh-later counters states (number + 1) xs g later in omega arith
 
 pub new-later : (all more : List Generated) (x : Generated) (tuple : List ℕ) → ((y : Generated) → In y more → x.number < y.number) →
     IsNewAt all x tuple → IsNewAt (all ++ more) x tuple

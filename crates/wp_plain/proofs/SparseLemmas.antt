@@ -11,10 +11,9 @@ use Rattle.wp_plain.specs.declared.settings.Search.TheVariants.{KBfws}
 use Rattle.wp_plain.specs.declared.settings.Settings.{Settings}
 use Rattle.wp_plain.specs.Nodes.{Node, generated_in, path_at}
 use Rattle.wp_plain.specs.Pairs.{pairs_in}
-use Rattle.wp_plain.specs.Expansion.{generated_at, keeps}
-use Rattle.wp_plain.specs.Run.{Moment, opening, run}
+use Rattle.wp_plain.specs.Expansion.{path_counters, generated_at, keeps}
+use Rattle.wp_plain.specs.Run.{Moment, opening, run, all_at, children_at, fresh_at}
 use Rattle.wp_plain.specs.Laws.{AreCounted, KeptAreFirst}
-use Rattle.wp_plain.proofs.StepCases.{all_at, children_at, fresh_at}
 use Rattle.wp_plain.specs.Numbers.{CountUp}
 use Rattle.wp_plain.proofs.NumberLemmas.{number_from, number_below, one_node}
 use Rattle.wp_plain.proofs.NextNodes.{IsNext, next, next_cases, generated-next}
@@ -46,7 +45,7 @@ keeps-sparse task settings tuples kbfws m node traced there before x = record {
       let at : IsNewAt (all_at task m node) g found.0 = new-later (generated_in m.nodes) (children_at task m node) g found.0
       (λ y new.
       let from : length m.nodes ≤ y.number =
-      fresh-later task (path_at m.paths node.generated.number).states (length m.nodes) (fresh_at task m node) y new in omega arith) found.2 in
+      fresh-later (path_counters task) (path_at m.paths node.generated.number).states (length m.nodes) (fresh_at task m node) y new in omega arith) found.2 in
       let here : IsNewAt (generated_in (next task settings m node traced.numbered there).nodes) g found.0 =
       subst (λ all. IsNewAt all g found.0) (sym (generated-next task settings m node traced.numbered there)) at in
       inr (found.0, found.1, here)
@@ -61,7 +60,7 @@ keeps-sparse task settings tuples kbfws m node traced there before x = record {
       (later node.generated (early_at node there) (before.first node there (ap (λ n. n.kept) (sym is) ∙ kept)))
   by y among kept (older old) = later y.generated (early_at y old) (before.first y old kept)
   by y among kept (child born) =
-      let g = generated_at task (path_at m.paths node.generated.number).states (length m.nodes + born.place) born.from.state in
+      let g = generated_at (path_counters task) (path_at m.paths node.generated.number).states (length m.nodes + born.place) born.from.state in
       let keep : keeps KBfws settings.width born.novelty ≡ true =
       ap (λ s. keeps s settings.width born.novelty) (sym kbfws) ∙ (ap (λ n. n.kept) (sym born.is) ∙ kept) in
       let small : novelty_of settings.width (all_at task m node) g ≤ settings.width =

@@ -11,7 +11,7 @@ use Rattle.wp_plain.specs.declared.ending.How.TheVariants.{Found, Emptied, Budge
 use Rattle.wp_plain.specs.Nodes.{Node, Successor, path_at, generated_in, states_kept, first_waiting, IsFirst}
 use Rattle.wp_plain.specs.Pairs.{pairs_in, exceeds}
 use Rattle.wp_plain.specs.Expansion.{successors_of, unseen, fresh_of, node_of, borns_of, event_of}
-use Rattle.wp_plain.specs.Run.{Moment, Outcome, expanded, expand, look_at, step, run_from, run, opening}
+use Rattle.wp_plain.specs.Run.{Moment, Outcome, fresh_at, all_at, nodes_at, repeats_at, expanded, expand, look_at, step, run_from, run, opening}
 use Rattle.wp_plain.specs.Run.Outcome.{Goes, Ends}
 use Rattle.wp_plain.proofs.FirstLemmas.{first_is_least}
 
@@ -33,23 +33,6 @@ none_waits nodes is y there =
     none y (Contains-from_In y nodes there)
 
 -- ---- steps
--- the successors of a node that are no repeats, as nodes among all nodes
-abbrev pub fresh_at : PlanningTask → Moment → Node → List Successor
-fresh_at task m node = unseen (λ x. x.state) (states_kept m.nodes) (successors_of task.acts node.generated.state)
-
-abbrev pub children_at : PlanningTask → Moment → Node → List Generated
-children_at task m node =
-    fresh_of task (path_at m.paths node.generated.number).states (length m.nodes) (fresh_at task m node)
-
-abbrev pub all_at : PlanningTask → Moment → Node → List Generated
-all_at task m node = generated_in m.nodes ++ children_at task m node
-
-abbrev pub nodes_at : PlanningTask → Settings → Moment → Node → List Node
-nodes_at task settings m node = map (node_of settings (all_at task m node)) (children_at task m node)
-
-abbrev pub repeats_at : PlanningTask → Moment → Node → ℕ
-repeats_at task m node = length (successors_of task.acts node.generated.state) - length (fresh_at task m node)
-
 -- the node is expanded, and the next moment is the one after it
 pub record IsExpansion (task : PlanningTask) (settings : Settings) (tuples : ℕ) (m next : Moment) (node : Node) : Type 0 where
   pub first : first_waiting m.nodes ≡ Some node

@@ -12,12 +12,12 @@ use Rattle.wp_relax.specs.RelaxedPlan.{added_by, is_added, relaxed_plan_of}
 use Rattle.wp_count.specs.Counters.{after_base, base_atoms, base_of, in_some, is_base, relaxed_counter}
 use Rattle.wp_plain.specs.declared.settings.Settings.{Settings}
 use Rattle.wp_plain.specs.declared.ending.How.{How}
-use Rattle.wp_plain.specs.Nodes.{Node, Path, path_at, extended, states_kept}
-use Rattle.wp_plain.specs.Expansion.{root_of, successors_of}
-use Rattle.wp_plain.specs.Run.{Moment, opening, run}
+use Rattle.wp_plain.specs.Nodes.{Node, Path, path_at, extended, states_kept, left}
+use Rattle.wp_plain.specs.Expansion.{path_counters, root_of, successors_of}
+use Rattle.wp_plain.specs.Run.{Moment, opening, run, fresh_at, all_at}
 use Rattle.wp_plain.specs.Numbers.{IsNumbered}
-use Rattle.wp_plain.proofs.StepCases.{first_there, fresh_at, all_at, IsEnd, IsExpansion, at_run}
-use Rattle.wp_plain.proofs.NextNodes.{IsChild, IsNext, left, next, next_cases, numbered-next, path-child, path-older, successor_by, unseen-sub}
+use Rattle.wp_plain.proofs.StepCases.{first_there, IsEnd, IsExpansion, at_run}
+use Rattle.wp_plain.proofs.NextNodes.{IsChild, IsNext, next, next_cases, numbered-next, path-child, path-older, successor_by, unseen-sub}
 use Rattle.wp_plain.proofs.NextNodes.IsNext.{expanded_one, older, child}
 
 -- ---- one action more
@@ -81,7 +81,7 @@ pub record AreTraced (task : PlanningTask) (m : Moment) : Type 0 where
   pub each : (x : Node) → In x m.nodes → IsTraced task x (path_at m.paths x.generated.number)
 
 traced_child : (task : PlanningTask) (settings : Settings) (m : Moment) (node : Node) → AreTraced task m → In node m.nodes →
-    (y : Node) (born : IsChild task settings (all_at task m node) (path_at m.paths node.generated.number) (length m.nodes) (fresh_at task m node) y) →
+    (y : Node) (born : IsChild (path_counters task) settings (all_at task m node) (path_at m.paths node.generated.number) (length m.nodes) (fresh_at task m node) y) →
     IsTraced task y (extended (path_at m.paths node.generated.number) born.from)
 traced_child task settings m node traced there y born =
     let parent = traced.each node there in

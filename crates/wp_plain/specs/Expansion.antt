@@ -29,18 +29,20 @@ unseen state_of seen (x ∷ xs) = elim (list_any (pointwise beq (state_of x)) se
   | false ↦ x ∷ unseen state_of (seen ++ state_of x ∷ []) xs
 ]
 
--- the node of a state after a path: its number, and its counters over the whole path
-abbrev pub generated_at : PlanningTask → List (List Bool) → ℕ → List Bool → Generated
-generated_at task states number state = record {
-  number = number;
-  counters = (goal_counter task.goals state, relaxed_counter task (state ∷ states));
-  state = state;
-}
+-- the counters (#g, #r) of a path, by its states from the last one back to the root
+abbrev pub path_counters : PlanningTask → List (List Bool) → ℕ × ℕ
+path_counters task [] = (0, 0)
+path_counters task (state ∷ states) = (goal_counter task.goals state, relaxed_counter task (state ∷ states))
+
+-- the node of a state after a path: its number, and its counters, which are a function of the whole path; the search has
+-- `path_counters`, and one that counts nothing has the same for each path
+abbrev pub generated_at : (List (List Bool) → ℕ × ℕ) → List (List Bool) → ℕ → List Bool → Generated
+generated_at counters states number state = record { number = number; counters = counters (state ∷ states); state = state }
 
 -- the children with the next numbers
-abbrev pub fresh_of : PlanningTask → List (List Bool) → ℕ → List Successor → List Generated
-fresh_of task states number [] = []
-fresh_of task states number (x ∷ children) = generated_at task states number x.state ∷ fresh_of task states (number + 1) children
+abbrev pub fresh_of : (List (List Bool) → ℕ × ℕ) → List (List Bool) → ℕ → List Successor → List Generated
+fresh_of counters states number [] = []
+fresh_of counters states number (x ∷ children) = generated_at counters states number x.state ∷ fresh_of counters states (number + 1) children
 
 -- whether a child of this novelty is kept
 abbrev pub keeps : Search → ℕ → ℕ → Bool
@@ -62,8 +64,8 @@ node_of settings nodes x = with_novelty settings x (novelty_of settings.width no
 -- the root, which has no parent
 abbrev pub root_of : PlanningTask → Settings → Node
 root_of task settings = record {
-  generated = generated_at task [] 0 task.init;
-  w = novelty_of settings.width (generated_at task [] 0 task.init ∷ []) (generated_at task [] 0 task.init);
+  generated = generated_at (path_counters task) [] 0 task.init;
+  w = novelty_of settings.width (generated_at (path_counters task) [] 0 task.init ∷ []) (generated_at (path_counters task) [] 0 task.init);
   kept = true;
   waits = true;
 }
