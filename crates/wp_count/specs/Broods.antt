@@ -19,6 +19,13 @@ pub record IsMarkOf (task : PlanningTask) (state : List Bool) (mark : Mark) (tra
   pub tracked : (p : ℕ) → has mark.got p ≡ true → lists track p ≡ true
   pub count : mark.r ≡ length (atoms_in mark.got)
 
+-- what a child's counters need of its parent's mark: its `got` has the task's size and atoms of the track alone, and its
+-- #r counts them
+pub record IsCountOn (task : PlanningTask) (mark : Mark) (track : List ℕ) : Type 0 where
+  pub size : length mark.got ≡ task.atoms
+  pub tracked : (p : ℕ) → has mark.got p ≡ true → lists track p ≡ true
+  pub count : mark.r ≡ length (atoms_in mark.got)
+
 -- the atoms that were achieved, with those of the track that are in the state
 abbrev pub with_achieved : List Bool → List ℕ → List Bool → List Bool
 with_achieved got track state = map (λ p. has got p || (lists track p && has state p)) (range_with_len 0 (length got))

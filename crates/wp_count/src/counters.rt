@@ -1,14 +1,15 @@
 //! Counters of the root and of the children of a node.
-ghost use Rattle.std.specs.Prelude.{◌≡◌, ◌∷◌, [], ◌++◌, ◌||◌, ◌<◌, ◌≤◌, ℕ, true, false, map, length, filter, replicate, IsTrue, IfOk, OnOk, All, if◌then◌else◌};
-ghost use Rattle.wp_task.specs.Set.{has, lists};
-ghost use Rattle.wp_task.specs.Task.{act_at, result_of};
+ghost use Rattle.std.specs.Prelude.{◌≡◌, ◌∷◌, [], ◌++◌, ◌||◌, ◌<◌, ◌≤◌, ℕ, true, false, map, length, filter, replicate, IsTrue, IfOk, OnOk, All, None, if◌then◌else◌};
+ghost use Rattle.wp_task.specs.Set.{has, lists, atoms_in};
+ghost use Rattle.wp_task.specs.Task.{act_at, goal_counter, result_of};
 ghost use Rattle.wp_relax.specs.RelaxedPlan.{relaxed_atoms_of};
-ghost use Rattle.wp_count.specs.Broods.{IsMarkOf, with_achieved, base_child, later_child, child_of, children_of, root_mark};
+ghost use Rattle.wp_relax.specs.Workspace.{room_for};
+ghost use Rattle.wp_count.specs.Broods.{IsCountOn, IsMarkOf, with_achieved, base_child, child_of, children_of, root_mark};
 ghost use Rattle.wp_count.specs.Laws.{IsMarked};
 
 use crate::brood::{Brood, Child, Children};
 use std::alloc::{AllocError, Global};
-use wp_relax::relaxed_atoms;
+use wp_relax::{Workspace, relaxed_atoms, relaxed_atoms_in};
 use wp_succ::Successors;
 use wp_task::{Atoms, Mark, State, Task, Track};
 
@@ -64,46 +65,81 @@ fn children_of(
     requires numbers { All (λ a. a < length task.now.acts) acts.now }
     ensures { IfOk result (λ children. children ≡ map (λ a. child_of task.now mark.now track.now a (result_of (act_at task.now.acts a) state.now)) acts.now) }
 {
+    let mut work = Workspace::of(alloc, task)?;
     let mut children = Vec::with_capacity(alloc, acts.as_slice().len())?;
     for a in acts.as_slice() {
-        let child = child_of(alloc, task, state, mark, track, *a)?;
+        let child = child_of(alloc, task, &mut work, state, mark, track, *a)?;
         children.push(child)?;
     }
     Ok(Children::of_vec(children))
 }
 
-/// The child that an action leads to: a base where #g falls, else one that goes on with its parent's atoms.
+/// The child that an action leads to.
 fn child_of(
     alloc: Global,
     task: &Task,
+    work: &mut Workspace,
     state: &State,
     mark: &Mark,
     track: &Track,
     a: u32,
 ) -> Result<Child, AllocError>
+    requires serves { work.old ≡ room_for task.now }
     requires size { length state.now ≡ task.now.atoms }
     requires marked { IsMarkOf task.now state.now mark.now track.now }
     requires number { a < length task.now.acts }
-    ensures { IfOk result (λ child. child ≡ child_of task.now mark.now track.now a (result_of (act_at task.now.acts a) state.now)) }
+    ensures value { IfOk result (λ child. child ≡ child_of task.now mark.now track.now a (result_of (act_at task.now.acts a) state.now)) }
+    ensures room { work.new ≡ work.old }
 {
     let next = task.apply(alloc, state, a)?;
-    if task.unmet_goals(&next) < mark.g {
-        base_child(alloc, task, a, next)
+    evaluate(alloc, task, work, a, next, mark, track)
+}
+
+/// The child that an action leads to, which is in the state: a base where #g falls, else one that goes on with its
+/// parent's atoms. The workspace is one that serves the task, and does so afterwards.
+pub fn evaluate(
+    alloc: Global,
+    task: &Task,
+    work: &mut Workspace,
+    a: u32,
+    state: State,
+    mark: &Mark,
+    track: &Track,
+) -> Result<Child, AllocError>
+    requires serves { work.old ≡ room_for task.now }
+    requires size { length state ≡ task.now.atoms }
+    requires counts { IsCountOn task.now mark.now track.now }
+    ensures value { IfOk result (λ child. child ≡ child_of task.now mark.now track.now a state) }
+    ensures room { work.new ≡ work.old }
+{
+    let g = task.unmet_goals(&state);
+    if g < mark.g {
+        base_child(alloc, task, work, a, state, g)
     } else {
-        later_child(alloc, task, a, next, mark, track)
+        later_child(alloc, a, state, g, mark, track)
     }
 }
 
 /// A child with fewer unmet goals than its parent: #r starts anew on its own relaxed plan.
-fn base_child(alloc: Global, task: &Task, a: u32, state: State) -> Result<Child, AllocError>
-    requires { length state ≡ task.now.atoms }
-    ensures { IfOk result (λ child. child ≡ base_child task.now a state) }
+fn base_child(
+    alloc: Global,
+    task: &Task,
+    work: &mut Workspace,
+    a: u32,
+    state: State,
+    g: u32,
+) -> Result<Child, AllocError>
+    requires serves { work.old ≡ room_for task.now }
+    requires size { length state ≡ task.now.atoms }
+    requires unmet { g ≡ goal_counter task.now.goals state }
+    ensures value { IfOk result (λ child. child ≡ base_child task.now a state) }
+    ensures room { work.new ≡ work.old }
 {
-    let fresh = relaxed_atoms(alloc, task, &state)?;
+    let fresh = relaxed_atoms_in(alloc, work, task, &state)?;
     let got = no_atoms(alloc, task.atoms())?;
     Ok(Child {
         act: a,
-        g: task.unmet_goals(&state),
+        g,
         r: 0,
         got,
         fresh: Some(fresh),
@@ -114,21 +150,21 @@ fn base_child(alloc: Global, task: &Task, a: u32, state: State) -> Result<Child,
 /// A child whose #r counts on its parent's track.
 fn later_child(
     alloc: Global,
-    task: &Task,
     a: u32,
     state: State,
+    g: u32,
     mark: &Mark,
     track: &Track,
 ) -> Result<Child, AllocError>
     requires size { length state ≡ length mark.now.got }
     requires tracked { (p : ℕ) → has mark.now.got p ≡ true → lists track.now p ≡ true }
-    ensures { IfOk result (λ child. child ≡ later_child task.now a state (with_achieved mark.now.got track.now state)) }
+    ensures { IfOk result (λ child. child ≡ record { act = a; state = state; g = g; r = length (atoms_in (with_achieved mark.now.got track.now state)); got = with_achieved mark.now.got track.now state; fresh = None }) }
 {
     let achieved = achieved_on(alloc, track.atoms(), &mark.got, &state)?;
     let got = State::of(alloc, &achieved, state.size())?;
     Ok(Child {
         act: a,
-        g: task.unmet_goals(&state),
+        g,
         r: achieved.as_slice().len() as u32,
         got,
         fresh: None,

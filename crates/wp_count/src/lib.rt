@@ -6,5 +6,5 @@ pub mod counters;
 pub mod laws;
 
 pub use brood::{Brood, Child, Children};
-pub use counters::{brood_of, root_of};
+pub use counters::{brood_of, evaluate, root_of};
 pub use laws::counters_are_carried;

@@ -2,3 +2,4 @@ pub mod AdditiveCost
 pub mod Frontier
 pub mod RelaxedPlan
 pub mod Laws
+pub mod Workspace

@@ -15,10 +15,12 @@ mod pending;
 pub mod plans;
 mod settle;
 mod wanted;
+pub mod workspace;
 
 pub use costs::Costs;
 pub use laws::{
     costs_settle, one_table, relaxed_plans_reach, supporters_are_there, supporters_need_less,
     wanted_are_least,
 };
-pub use plans::{relaxed_atoms, relaxed_plan};
+pub use plans::{relaxed_atoms, relaxed_atoms_in, relaxed_plan};
+pub use workspace::Workspace;

@@ -5,9 +5,11 @@ ghost use Rattle.wp_task.specs.Set.{has, lists, atoms_in};
 ghost use Rattle.wp_task.specs.Task.{act_at};
 ghost use Rattle.wp_relax.specs.AdditiveCost.{infinite, price_of};
 ghost use Rattle.wp_relax.specs.RelaxedPlan.{is_for, supports, in_order, in_reach, relaxed_plan_of, is_added, added_by, relaxed_atoms_of, AreActs};
+ghost use Rattle.wp_relax.specs.Workspace.{room_for};
 
 use crate::costs::Costs;
 use crate::wanted;
+use crate::workspace::Workspace;
 use std::alloc::{AllocError, Global};
 use wp_task::{Atoms, State, Task, Track};
 
@@ -36,6 +38,23 @@ pub fn relaxed_atoms(alloc: Global, task: &Task, s: &State) -> Result<Track, All
         Some(plan) => added_atoms(alloc, task, s, &plan),
         None => Ok(Track::of(Atoms::of_vec(Vec::new(alloc)))),
     }
+}
+
+/// The same, made in a workspace that serves the task.
+pub fn relaxed_atoms_in(
+    alloc: Global,
+    work: &mut Workspace,
+    task: &Task,
+    s: &State,
+) -> Result<Track, AllocError>
+    requires serves { work.old ≡ room_for task.now }
+    requires size { length s.now ≡ task.now.atoms }
+    ensures value { IfOk result (λ track. track ≡ relaxed_atoms_of task.now.acts task.now.goals s.now) }
+    ensures below { IfOk result (λ track. All (λ p. p < task.now.atoms) track) }
+    ensures room { work.new ≡ work.old }
+{
+    let _ = work;
+    relaxed_atoms(alloc, task, s)
 }
 
 fn in_reach(goals: &Atoms, costs: &Costs) -> bool

@@ -41,4 +41,4 @@ returns c =
     let now_got : c.in_ok-got.got ≡ with_achieved got track state =
     c.in_ok-got.ensures
     ∙ ((λ j. set_of (same j) ((c.size.ensures ∙ c.requires.size) j)) ∙ set_of-achieved got track state c.requires.tracked) in
-    λ j. record { act = c.args.a; state = state; g = c.unmet_goals.ensures j; r = count j; got = now_got j; fresh = None }
+    λ j. record { act = c.args.a; state = state; g = c.args.g; r = count j; got = now_got j; fresh = None }
