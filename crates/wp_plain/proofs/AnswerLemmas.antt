@@ -17,7 +17,7 @@ use Rattle.wp_plain.proofs.FoundLemmas.{found_is_plan}
 use Rattle.wp_plain.proofs.EmptiedLemmas.{emptied_has_no_plan}
 use Rattle.wp_plain.proofs.CounterPairs.{pairs_are_few}
 use Rattle.wp_plain.proofs.NewTuples.{all_are_counted}
-use Rattle.wp_plain.proofs.LimitLemmas.{budget_is_enough, expansions_are_few, limits_are_enough}
+use Rattle.wp_plain.proofs.LimitLemmas.{budget_is_enough, budget_is_spent, kept_states, words_are_exceeded, expansions_are_few, limits_are_enough}
 
 pub endings_answer : EndingsAnswer
 endings_answer task settings tuples counted place fits counting = record {
@@ -26,6 +26,9 @@ endings_answer task settings tuples counted place fits counting = record {
   few = λ kbfws. expansions_are_few task settings tuples counted place fits kbfws counting;
   pairs = pairs_are_few task settings tuples fits;
   unspent = λ kbfws. budget_is_enough task settings tuples counted place fits kbfws counting;
+  budget = λ is. (budget_is_spent task settings tuples is).0;
+  words = words_are_exceeded task settings tuples;
+  states = λ f5. kept_states task settings tuples f5;
   decided = λ states f5. limits_are_enough task settings tuples states fits f5;
 }
 

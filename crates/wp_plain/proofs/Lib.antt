@@ -9,6 +9,8 @@ pub mod CounterPairs
 pub mod NewTuples
 pub mod SparseLemmas
 pub mod LimitLemmas
+pub mod RepeatLemmas
+pub mod SmallLemmas
 pub mod AnswerLemmas
 pub mod ListLemmas
 pub mod TupleLemmas

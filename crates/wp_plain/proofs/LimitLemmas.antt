@@ -10,9 +10,10 @@ use Rattle.std.proofs.lemmas.Slice.Eq.{slice_eq-Decides}
 use Rattle.std.proofs.lemmas.Bool.{both_ways, ltb-true}
 use Rattle.std.proofs.lemmas.List.{get_or_default, length-map, length_push}
 use Rattle.std.proofs.lemmas.List.Elements.{filter-append}
+use Rattle.std.proofs.lemmas.List.Sums.{length-filter}
 use Rattle.wp_task.specs.Task.{PlanningTask, IsReachable}
 use Rattle.wp_task.specs.Novelty.{Generated}
-use Rattle.wp_task.proofs.Members.{In, Contains-from_In, In-filter, In-append_left, In-append_right, list_any-from}
+use Rattle.wp_task.proofs.Members.{In, In-from_Contains, Contains-from_In, In-filter, In-append_left, In-append_right, list_any-from}
 use Rattle.wp_plain.specs.declared.settings.Search.TheVariants.{F5}
 use Rattle.wp_plain.specs.declared.settings.Settings.{Settings}
 use Rattle.wp_plain.specs.declared.ending.How.{How}
@@ -20,16 +21,16 @@ use Rattle.wp_plain.specs.declared.ending.How.TheVariants.{Found, Emptied, Budge
 use Rattle.wp_plain.specs.Nodes.{Node, Successor, path_at, generated_in, states_kept, first_waiting, left}
 use Rattle.wp_plain.specs.Pairs.{pairs_in, tuple_count, exceeds}
 use Rattle.wp_plain.specs.Expansion.{path_counters, borns_of, event_of, successors_of, unseen, fresh_of, node_of}
-use Rattle.wp_plain.specs.Run.{Moment, opening, run, all_at, fresh_at, nodes_at, repeats_at}
-use Rattle.wp_plain.specs.Laws.{ExpansionsAreFew, TuplesAreCounted, BudgetIsSpent, WordsAreExceeded, BudgetIsEnough, LimitsAreEnough}
+use Rattle.wp_plain.specs.Run.{Moment, ending_of, opening, run, all_at, fresh_at, nodes_at, repeats_at}
+use Rattle.wp_plain.specs.Laws.{AreStatesKept, ExpansionsAreFew, TuplesAreCounted, BudgetIsSpent, WordsAreExceeded, BudgetIsEnough, LimitsAreEnough}
 use Rattle.wp_plain.proofs.TupleLemmas.{ones, twos, half}
 use Rattle.wp_plain.proofs.StepCases.{first_there, first_waits, IsEnd}
 use Rattle.wp_plain.proofs.NumberLemmas.{number_below, fewer-set}
 use Rattle.wp_plain.proofs.NextNodes.{child_at, generated-next, next, node-at, states-next}
 use Rattle.wp_plain.proofs.TraceLemmas.{AreTraced, Keeps, IsEnded, ended, traced-next}
-use Rattle.wp_plain.proofs.EmptiedLemmas.{IsOpen, keeps-open, node_kept, open-opening}
+use Rattle.wp_plain.proofs.EmptiedLemmas.{IsOpen, emptied_is_closed, keeps-open, node_kept, open-opening}
 use Rattle.wp_plain.proofs.CounterPairs.{traced-few}
-use Rattle.wp_plain.proofs.Pigeons.{AreApart, AreApart-append, pigeons}
+use Rattle.wp_plain.proofs.Pigeons.{AreApart, AreApart-append, apart_pairs, pigeons}
 use Rattle.wp_plain.proofs.SparseLemmas.{kept_at_end}
 
 -- ---- how many tuples there are
@@ -133,7 +134,7 @@ budget_is_enough task settings tuples counted place fits kbfws counting enough i
     absurd (omega arith)
 
 -- ---- the states that BFWS(f5) keeps
-seen_from_there : (seen : List (List Bool)) (s : List Bool) → In s seen → list_any (pointwise beq s) seen ≡ true
+pub seen_from_there : (seen : List (List Bool)) (s : List Bool) → In s seen → list_any (pointwise beq s) seen ≡ true
 seen_from_there seen s there =
     list_any-from (pointwise beq s) seen s there ((slice_eq-Decides booleans_Decides s s (pointwise beq s s) refl).1 refl)
 
@@ -204,21 +205,39 @@ tidy-opening task settings = record {
   apart = (λ none. none, tt);
 }
 
+reachable_kept : (task : PlanningTask) (m : Moment) → AreTraced task m → (s : List Bool) → In s (states_kept m.nodes) → IsReachable task s
+reachable_kept task m traced s there =
+    let found = node_kept m.nodes s there in
+    let here = traced.each found.0 found.1 in
+    record {
+      actions = (path_at m.paths found.0.generated.number).acts;
+      leads = here.leads ∙ ap (λ t. Some t) (sym found.2);
+    }
+
 -- each kept state is reachable, and none is kept twice
 states_few : (task : PlanningTask) (m : Moment) (states : List (List Bool)) → AreTraced task m → AreApart (states_kept m.nodes) →
     ((state : List Bool) → IsReachable task state → Contains states state) → length (states_kept m.nodes) ≤ length states
 states_few task m states traced apart all =
-    pigeons (λ (s : List Bool) (c : ℕ). get_or states c [] ≡ s) (length states) (states_kept m.nodes) (λ s there. place s (node_kept m.nodes s there))
+    pigeons (λ (s : List Bool) (c : ℕ). get_or states c [] ≡ s) (length states) (states_kept m.nodes)
+    (λ s there. place s (all s (reachable_kept task m traced s there)))
     (λ s t c first second one other. sym one ∙ other) apart where
-      place : (s : List Bool) → (x : Node) × In x m.nodes × (s ≡ x.generated.state) → (c : ℕ) × (c < length states) × (get_or states c [] ≡ s)
-      place s found =
-          let here = traced.each found.0 found.1 in
-          let reachable : IsReachable task s = record {
-            actions = (path_at m.paths found.0.generated.number).acts;
-            leads = here.leads ∙ ap (λ t. Some t) (sym found.2);
-          } in
-          let at : Contains states s = all s reachable in
-          (at.0, at.1, get_or_default states at.0 [] s at.1 ∙ at.2)
+      place : (s : List Bool) → Contains states s → (c : ℕ) × (c < length states) × (get_or states c [] ≡ s)
+      place s at = (at.0, at.1, get_or_default states at.0 [] s at.1 ∙ at.2)
+
+-- what BFWS(f5) has kept where it ends
+pub kept_states : (task : PlanningTask) (settings : Settings) (tuples : ℕ) → settings.search ≡ F5 →
+    (states : List (List Bool)) × AreStatesKept task (ending_of task settings tuples) states
+kept_states task settings tuples f5 =
+    let end = ended task settings tuples (AreTidy task) (tidy-opening task settings) (keeps-tidy task settings tuples f5) in
+    let m = (run task settings tuples).1 in (
+      states_kept m.nodes,
+      record {
+        count = length-map (filter (λ n. n.kept) m.nodes) (λ n. n.generated.state) ∙ length-filter (λ n. n.kept) m.nodes;
+        reachable = λ s there. reachable_kept task m end.traced s (In-from_Contains s (states_kept m.nodes) there);
+        apart = apart_pairs (states_kept m.nodes) end.holds.apart;
+        closed = emptied_is_closed task settings tuples f5;
+      },
+    )
 
 -- no limit of words is exceeded by pairs that are few enough
 not_exceeded : (words pairs most tuples : ℕ) → pairs ≤ most → most * tuples ≤ words → exceeds words pairs tuples ≡ true → ⊥

@@ -59,7 +59,7 @@ successor_there acts state a within applied =
 same_state : (s t : List Bool) → pointwise beq s t ≡ true → s ≡ t
 same_state s t = (slice_eq-Decides booleans_Decides s t (pointwise beq s t) refl).0
 
-seen_there : (seen : List (List Bool)) (s : List Bool) → list_any (pointwise beq s) seen ≡ true → In s seen
+pub seen_there : (seen : List (List Bool)) (s : List Bool) → list_any (pointwise beq s) seen ≡ true → In s seen
 seen_there seen s some =
     let found : (t : List Bool) × In t seen × (pointwise beq s t ≡ true) = list_any-at (pointwise beq s) seen some in
     subst (λ t. In t seen) (sym (same_state s found.0 found.2)) found.1

@@ -1,17 +1,19 @@
 -- What holds of every search, whatever its task: of its ending, and of the nodes that it has then.
 -- The bound is that of iterated width: a node is kept for a tuple that is new (Lipovetzky and Geffner, ECAI 2012); with
 -- counters it is that of k-BFWS (AAAI 2017).
-use Rattle.std.specs.Prelude.{◌≡◌, ◌⊎◌, ◌+◌, ◌-◌, ◌*◌, ◌/◌, ◌<◌, ◌≤◌, ℕ, Bool, true, false, List, All, length, Contains}
-use Rattle.std.specs.List.{list_all}
+use Rattle.std.specs.Prelude.{◌≡◌, ◌⊎◌, ◌+◌, ◌-◌, ◌*◌, ◌/◌, ◌^◌, ◌<◌, ◌≤◌, ◌≢◌, ℕ, Bool, true, false, List, All, length, Contains}
+use Rattle.std.specs.List.{list_all, AllPairs}
 use Rattle.wp_task.specs.Set.{has, IsIn}
 use Rattle.wp_task.specs.Task.{PlanningTask, IsTask, IsReachable, act_at, applies, result_of, is_plan}
 use Rattle.wp_task.specs.Novelty.{IsNewAt, tuples_in}
 use Rattle.wp_plain.specs.declared.settings.Search.TheVariants.{KBfws, F5}
 use Rattle.wp_plain.specs.declared.settings.Settings.{Settings}
+use Rattle.wp_plain.specs.declared.ending.Counts.{Counts}
 use Rattle.wp_plain.specs.declared.ending.Ending.{Ending}
 use Rattle.wp_plain.specs.declared.ending.How.TheVariants.{Found, Emptied, Budget, Words}
 use Rattle.wp_plain.specs.Nodes.{Node, generated_in, states_kept}
 use Rattle.wp_plain.specs.Pairs.{all_tuples, tuple_count, place_in}
+use Rattle.wp_plain.specs.Ranges.{AreInRange}
 use Rattle.wp_plain.specs.Run.{run, ending_of}
 
 -- ---- plans
@@ -112,7 +114,29 @@ LimitsAreEnough = (task : PlanningTask) (settings : Settings) (tuples : ℕ) (st
     (length task.goals + 1) * (task.atoms + 1) * tuples ≤ settings.words →
     ((plan : List ℕ) × ((ending_of task settings tuples).how ≡ Found plan)) ⊎ ((ending_of task settings tuples).how ≡ Emptied)
 
+-- ---- ranges
+-- no number of a run reaches 2^63: none of its counts, and no number of a node
+pub record AreSmall (counts : Counts) (nodes : List Node) : Type 0 where
+  pub expanded : counts.expanded < 2 ^ 63
+  pub numbered : counts.numbered < 2 ^ 63
+  pub kept : counts.kept < 2 ^ 63
+  pub pruned : counts.pruned < 2 ^ 63
+  pub repeats : counts.repeats < 2 ^ 63
+  pub pairs : counts.pairs < 2 ^ 63
+  pub numbers : (x : Node) → Contains nodes x → x.generated.number < 2 ^ 63
+
+abbrev pub NumbersAreSmall : Type 0
+NumbersAreSmall = (task : PlanningTask) (settings : Settings) (tuples : ℕ) → IsTask task → AreInRange settings →
+    AreSmall (ending_of task settings tuples).counts (run task settings tuples).1.nodes
+
 -- ---- all of it
+-- so many states were kept: they are reachable and differ, and where no node waits they are closed
+pub record AreStatesKept (task : PlanningTask) (ending : Ending) (states : List (List Bool)) : Type 0 where
+  pub count : length states ≡ ending.counts.kept
+  pub reachable : (state : List Bool) → Contains states state → IsReachable task state
+  pub apart : AllPairs (λ s t. s ≢ t) states
+  pub closed : ending.how ≡ Emptied → IsClosed task states
+
 -- what an ending says of its task, where so many tuples are counted
 pub record AnswersFor (task : PlanningTask) (settings : Settings) (tuples : ℕ) (ending : Ending) : Type 0 where
   -- what is found is a plan
@@ -126,6 +150,11 @@ pub record AnswersFor (task : PlanningTask) (settings : Settings) (tuples : ℕ)
   -- a budget above that bound is not spent
   pub unspent : settings.search ≡ KBfws →
       1 + ending.counts.pairs * tuples ≤ settings.budget → ending.how ≡ Budget → ⊥
+  -- a budget that ends it is spent, and words that end it are more than their limit
+  pub budget : ending.how ≡ Budget → ending.counts.expanded ≡ settings.budget
+  pub words : (pairs : ℕ) → ending.how ≡ Words pairs → settings.words < pairs * tuples
+  -- what BFWS(f5) has kept
+  pub states : settings.search ≡ F5 → (states : List (List Bool)) × AreStatesKept task ending states
   -- BFWS(f5) is decided by a budget for all reachable states and words for all pairs
   pub decided : (states : List (List Bool)) → settings.search ≡ F5 →
       ((state : List Bool) → IsReachable task state → Contains states state) → length states ≤ settings.budget →

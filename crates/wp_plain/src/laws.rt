@@ -1,6 +1,6 @@
 //! Laws of the search, each on a function of its own. They speak of its definition, and so of everything that ends as
 //! the definition says.
-ghost use Rattle.wp_plain.specs.Laws.{FoundIsPlan, EmptiedIsClosed, ClosedHasNoPlan, EmptiedHasNoPlan, KeptAreFirst, AllAreCounted, ExpansionsAreFew, PairsAreFew, TuplesAreCounted, BudgetIsSpent, WordsAreExceeded, BudgetIsEnough, LimitsAreEnough, EndingsAnswer, EndingsOfAllAnswer};
+ghost use Rattle.wp_plain.specs.Laws.{FoundIsPlan, EmptiedIsClosed, ClosedHasNoPlan, EmptiedHasNoPlan, KeptAreFirst, AllAreCounted, ExpansionsAreFew, PairsAreFew, TuplesAreCounted, BudgetIsSpent, WordsAreExceeded, BudgetIsEnough, LimitsAreEnough, EndingsAnswer, EndingsOfAllAnswer, NumbersAreSmall};
 
 /// What a search finds is a plan of the task.
 pub fn found_is_plan()
@@ -41,6 +41,11 @@ pub fn limits_are_reached()
 pub fn limits_are_enough()
     ensures budget { BudgetIsEnough }
     ensures limits { LimitsAreEnough }
+{}
+
+/// No number of a run reaches 2^63, of a task and of settings in their ranges.
+pub fn numbers_are_small()
+    ensures { NumbersAreSmall }
 {}
 
 /// All of this as one record of each ending, for tuples that are counted, and for all tuples of the task.
