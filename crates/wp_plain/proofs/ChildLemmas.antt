@@ -12,7 +12,8 @@ use Rattle.wp_count.specs.Broods.{with_achieved, base_child, later_child, child_
 use Rattle.wp_count.specs.Laws.{IsEvaluated}
 use Rattle.wp_plain.specs.Nodes.{Successor}
 use Rattle.wp_plain.specs.Expansion.{path_counters, successors_of, unseen, generated_at, fresh_of}
-use Rattle.wp_plain.specs.Explored.{bare, numbered, all_numbered}
+use Rattle.wp_plain.specs.Explored.{bare, numbered, all_numbered, ChildrenAreNumbered}
+use Rattle.wp_plain.proofs.NodeLemmas.{pairs_in-numbered}
 
 map-made : {X Y Z : Type 0} (f : X → Y) (h : Y → Z) (g : X → Z) → ((x : X) → h (f x) ≡ g x) → (xs : List X) → map h (map f xs) ≡ map g xs
 map-made f h g same [] = refl
@@ -84,3 +85,11 @@ fresh-numbered task states track n (c ∷ cs) evaluated =
     let first : numbered n c ≡ generated_at (path_counters task) states n c.state =
     λ j. (let g : Generated = record { number = n; counters = (counters.unmet j, counters.relaxed j); state = c.state } in g) in
     λ j. first j ∷ fresh-numbered task states track (n + 1) cs (All-tail (IsEvaluated task states track) c cs evaluated) j
+
+pub children_are_numbered : ChildrenAreNumbered
+children_are_numbered = record {
+  successors = bare-children;
+  fresh = unseen-bare;
+  numbered = fresh-numbered;
+  pairs = pairs_in-numbered;
+}

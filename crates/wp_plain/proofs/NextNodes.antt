@@ -12,14 +12,14 @@ use Rattle.std.proofs.lemmas.Slice.Eq.{slice_eq-Decides}
 use Rattle.wp_task.specs.declared.acts.Act.{Act}
 use Rattle.wp_task.specs.Task.{PlanningTask, act_at, applies, applicable_in, result_of}
 use Rattle.wp_task.specs.Novelty.{Generated, novelty_of}
-use Rattle.wp_task.proofs.Members.{In, In-at, Contains-from_In, In-map, In-map_cases, In-filter, In-filter_cases, In-append_cases, list_any-at}
+use Rattle.wp_task.proofs.Members.{In-from_Contains, In, In-at, Contains-from_In, In-map, In-map_cases, In-filter, In-filter_cases, In-append_cases, list_any-at}
 use Rattle.wp_task.proofs.TaskLemmas.{range_below}
 use Rattle.wp_plain.specs.declared.settings.Settings.{Settings}
 use Rattle.wp_plain.specs.Nodes.{Node, left, Path, Successor, no_path, path_at, extended, generated_in, states_kept}
 use Rattle.wp_plain.specs.Expansion.{path_counters, successors_of, unseen, generated_at, fresh_of, with_novelty, node_of}
 use Rattle.wp_plain.specs.Run.{Moment, expanded, fresh_at, children_at, all_at, nodes_at, repeats_at}
-use Rattle.wp_plain.specs.Numbers.{CountUp, IsNumbered}
-use Rattle.wp_plain.proofs.NumberLemmas.{number_below, node_there, CountUp-append, CountUp-set, In-set_cases, kept-set}
+use Rattle.wp_plain.specs.Numbers.{CountUp, IsNumbered, NodesAreNumbered}
+use Rattle.wp_plain.proofs.NumberLemmas.{number_below, one_node, node_there, CountUp-append, CountUp-set, In-set_cases, kept-set}
 
 -- ---- numbers of a range
 pub In-range : (n q : ℕ) → q < n → In q (range_with_len 0 n)
@@ -244,3 +244,22 @@ module _ (task : PlanningTask) (settings : Settings) (m : Moment) (node : Node) 
       let place : y.generated.number ≡ length m.paths + born.place = omega arith in
       ap (path_at next.paths) place
       ∙ (get_or-append-add m.paths (map (extended path) (fresh_at task m node)) born.place no_path ∙ born.path)
+
+-- ---- numbers stay places
+pub nodes_are_numbered : NodesAreNumbered
+nodes_are_numbered = record {
+  below = λ m x numbered there.
+      let below : x.generated.number < 0 + length m.nodes = number_below 0 m.nodes numbered.numbers x (In-from_Contains x m.nodes there) in
+      omega arith;
+  one = λ m x y numbered there also.
+      one_node 0 m.nodes numbered.numbers x y (In-from_Contains x m.nodes there) (In-from_Contains y m.nodes also);
+  stays = λ task settings m node numbered there.
+      let among = In-from_Contains node m.nodes there in
+      record {
+        place = node-at task settings m node numbered among;
+        numbered = numbered-next task settings m node numbered among;
+        generated = generated-next task settings m node numbered among;
+        kept = states-next task settings m node numbered among;
+        children = length-children (path_counters task) settings (all_at task m node) (path_at m.paths node.generated.number) (length m.nodes) (fresh_at task m node);
+      };
+}

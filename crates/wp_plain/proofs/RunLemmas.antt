@@ -1,5 +1,6 @@
 -- A step and a run, test by test.
-use Rattle.std.proofs.Common.{◌≡◌, ◌==◌, ℕ, suc, ◌+◌, true, false, List, [], Option, Some, None, length, sym, ap, ◌∙◌}
+use Rattle.std.proofs.Common.{◌≡◌, ◌==◌, ℕ, suc, ◌+◌, Bool, refl, true, false, List, [], Option, Some, None, length, sym, ap, ◌∙◌}
+use Rattle.std.proofs.lemmas.Bool.{eq-eqb, ne_eqb}
 use Rattle.wp_task.specs.Task.{PlanningTask}
 use Rattle.wp_watch.specs.declared.event.Event.{Event}
 use Rattle.wp_watch.specs.declared.watch.WatchKind.{WatchKind}
@@ -8,8 +9,8 @@ use Rattle.wp_plain.specs.declared.ending.How.{How}
 use Rattle.wp_plain.specs.declared.ending.How.TheVariants.{Found, Budget, Words}
 use Rattle.wp_plain.specs.declared.explored.Explored.{Explored}
 use Rattle.wp_plain.specs.Nodes.{Node, Path, path_at}
-use Rattle.wp_plain.specs.Pairs.{exceeds}
-use Rattle.wp_plain.specs.Run.{Moment, Outcome, expand, look_at, opening, run, step, run_from}
+use Rattle.wp_plain.specs.Pairs.{pairs_in, exceeds}
+use Rattle.wp_plain.specs.Run.{Moment, Outcome, fresh_at, all_at, nodes_at, repeats_at, expanded, IsTaken, expand, look_at, opening, run, step, run_from}
 use Rattle.wp_plain.specs.Run.Outcome.{Goes, Ends}
 use Rattle.wp_plain.specs.Explored.{Watched, moment_of, StandsFor, Steps, StepsFrom}
 
@@ -71,3 +72,34 @@ module _ (task : PlanningTask) (settings : Settings) (tuples : ℕ) where
         | false ↦ run_from task settings tuples (settings.budget + 1) (opening task settings)
       ]) many
       ∙ λ j. (Words 1, (let m : Moment = record { nodes = sym nodes j; paths = (opening task settings).paths; events = [] } in m))
+
+  pub is_taken : IsTaken task settings tuples
+  is_taken = record {
+    found = λ m node met. look_at-found m node (path_at m.paths node.generated.number).acts (eq-eqb node.generated.counters.0 0 met) refl;
+    spent = λ m node unmet spent.
+        ap (λ b. elim b as (λ _. Outcome) [
+          | true ↦ Ends (Found (path_at m.paths node.generated.number).acts)
+          | false ↦ elim (length m.events == settings.budget) as (λ _. Outcome) [ true ↦ Ends Budget | false ↦ expand task settings tuples m node ]
+        ]) (ne_eqb node.generated.counters.0 0 unmet)
+        ∙ ap (λ b. elim b as (λ _. Outcome) [ true ↦ Ends Budget | false ↦ expand task settings tuples m node ])
+        (eq-eqb (length m.events) settings.budget spent);
+    spare = λ m node unmet spare.
+        look_at-expands m node (ne_eqb node.generated.counters.0 0 unmet) (ne_eqb (length m.events) settings.budget spare);
+    many = λ m node many. ap (tested m node) many;
+    few = λ m node few. ap (tested m node) few;
+    goes = run_from-goes;
+    ends = run_from-ends;
+    stops = λ many. ap begun many;
+    begins = λ few. ap begun few;
+  } where
+    tested : Moment → Node → Bool → Outcome
+    tested m node b = elim b as (λ _. Outcome) [
+      | true ↦ Ends (Words (length (pairs_in (all_at task m node))))
+      | false ↦ Goes (expanded m node (repeats_at task m node) (fresh_at task m node) (nodes_at task settings m node))
+    ]
+
+    begun : Bool → How × Moment
+    begun b = elim b as (λ _. How × Moment) [
+      | true ↦ (Words 1, opening task settings)
+      | false ↦ run_from task settings tuples (settings.budget + 1) (opening task settings)
+    ]

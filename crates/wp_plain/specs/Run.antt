@@ -131,3 +131,27 @@ ending_of task settings tuples = ending_from (run task settings tuples)
 abbrev pub WorkersPlayNoPart : Type 0
 WorkersPlayNoPart = (task : PlanningTask) (settings : Settings) (tuples workers ahead : ℕ) →
     run task (record settings { workers = workers; ahead = ahead }) tuples ≡ run task settings tuples
+
+-- a step and a run, case by case
+pub record IsTaken (task : PlanningTask) (settings : Settings) (tuples : ℕ) : Type 0 where
+  pub found : (m : Moment) (node : Node) → node.generated.counters.0 ≡ 0 →
+      look_at task settings tuples m (Some node) ≡ Ends (Found (path_at m.paths node.generated.number).acts)
+  pub spent : (m : Moment) (node : Node) → ¬ (node.generated.counters.0 ≡ 0) → length m.events ≡ settings.budget →
+      look_at task settings tuples m (Some node) ≡ Ends Budget
+  pub spare : (m : Moment) (node : Node) → ¬ (node.generated.counters.0 ≡ 0) → ¬ (length m.events ≡ settings.budget) →
+      look_at task settings tuples m (Some node) ≡ expand task settings tuples m node
+  pub many : (m : Moment) (node : Node) → exceeds settings.words (length (pairs_in (all_at task m node))) tuples ≡ true →
+      expand task settings tuples m node ≡ Ends (Words (length (pairs_in (all_at task m node))))
+  pub few : (m : Moment) (node : Node) → exceeds settings.words (length (pairs_in (all_at task m node))) tuples ≡ false →
+      expand task settings tuples m node
+      ≡ Goes (expanded m node (repeats_at task m node) (fresh_at task m node) (nodes_at task settings m node))
+  pub goes : (steps : ℕ) (m next : Moment) → step task settings tuples m ≡ Goes next →
+      run_from task settings tuples (suc steps) m ≡ run_from task settings tuples steps next
+  pub ends : (steps : ℕ) (m : Moment) (how : How) → step task settings tuples m ≡ Ends how →
+      run_from task settings tuples (suc steps) m ≡ (how, m)
+  pub stops : exceeds settings.words 1 tuples ≡ true → run task settings tuples ≡ (Words 1, opening task settings)
+  pub begins : exceeds settings.words 1 tuples ≡ false →
+      run task settings tuples ≡ run_from task settings tuples (settings.budget + 1) (opening task settings)
+
+abbrev pub StepsAreTaken : Type 0
+StepsAreTaken = (task : PlanningTask) (settings : Settings) (tuples : ℕ) → IsTaken task settings tuples

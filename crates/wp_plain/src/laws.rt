@@ -1,5 +1,8 @@
 //! Laws of the search, each on a function of its own. They speak of its definition, and so of everything that ends as
-//! the definition says.
+//! the definition says. The last three are the definition case by case, for what is proved to go as it does.
+ghost use Rattle.wp_plain.specs.Explored.{ChildrenAreNumbered};
+ghost use Rattle.wp_plain.specs.Numbers.{NodesAreNumbered};
+ghost use Rattle.wp_plain.specs.Run.{StepsAreTaken};
 ghost use Rattle.wp_plain.specs.Laws.{FoundIsPlan, EmptiedIsClosed, ClosedHasNoPlan, EmptiedHasNoPlan, KeptAreFirst, AllAreCounted, ExpansionsAreFew, PairsAreFew, TuplesAreCounted, BudgetIsSpent, WordsAreExceeded, BudgetIsEnough, LimitsAreEnough, EndingsAnswer, EndingsOfAllAnswer, NumbersAreSmall};
 
 /// What a search finds is a plan of the task.
@@ -52,4 +55,19 @@ pub fn numbers_are_small()
 pub fn endings_answer()
     ensures counted { EndingsAnswer }
     ensures all { EndingsOfAllAnswer }
+{}
+
+/// A step and a run, case by case.
+pub fn steps_are_taken()
+    ensures { StepsAreTaken }
+{}
+
+/// The number of a node is its place, and names it; an expansion leaves it so.
+pub fn nodes_are_numbered()
+    ensures { NodesAreNumbered }
+{}
+
+/// Evaluated children, with the next numbers, are the nodes that an expansion generates.
+pub fn children_are_numbered()
+    ensures { ChildrenAreNumbered }
 {}
