@@ -1,6 +1,6 @@
 -- The laws of an ending, all of them.
 use Rattle.std.proofs.Common.{◌≡◌, ℕ, List, Option, sym, ap, subst, ◌∙◌}
-use Rattle.wp_task.specs.Task.{PlanningTask, IsTask}
+use Rattle.wp_task.specs.Task.{PlanningTask}
 use Rattle.wp_task.specs.Novelty.{tuples_in}
 use Rattle.wp_watch.specs.declared.watch.WatchKind.{WatchKind}
 use Rattle.wp_watch.specs.Places.{Place, AreAfter}

@@ -12,8 +12,9 @@ use Rattle.wp_plain.specs.Nodes.{Node, path_at, states_kept, left}
 use Rattle.wp_plain.specs.Expansion.{path_counters, keeps, successors_of}
 use Rattle.wp_plain.specs.Run.{Moment, opening, run, fresh_at, all_at, nodes_at}
 use Rattle.wp_plain.specs.Laws.{IsClosed, EmptiedIsClosed, ClosedHasNoPlan, EmptiedHasNoPlan}
+use Rattle.wp_plain.proofs.UnseenLemmas.{unseen_covers}
 use Rattle.wp_plain.proofs.StepCases.{none_waits, IsEnd}
-use Rattle.wp_plain.proofs.NextNodes.{IsNext, child_at, next, next_cases, states-next, successor_there, unseen_covers, child_for}
+use Rattle.wp_plain.proofs.NextNodes.{IsNext, child_at, next, next_cases, states-next, successor_there, child_for}
 use Rattle.wp_plain.proofs.NextNodes.IsNext.{expanded_one, older, child}
 use Rattle.wp_plain.proofs.TraceLemmas.{AreTraced, Keeps, ended}
 use Rattle.wp_plain.proofs.FoundLemmas.{none_unmet}

@@ -23,9 +23,10 @@ use Rattle.wp_plain.specs.Expansion.{path_counters, successors_of, unseen, fresh
 use Rattle.wp_plain.specs.Run.{Moment, Outcome, expanded, expand}
 use Rattle.wp_plain.specs.Run.Outcome.{Goes, Ends}
 use Rattle.wp_plain.specs.Explored.{no_node, node_at, way_at, track_at, path_over, states_before, lists_of, bare, all_numbered, child_pair, brood_at, without_waiting, expanded_at, event_at, moment_of, watched, Lists, AreReached, IsReached, StandsFor}
+use Rattle.wp_plain.proofs.UnseenLemmas.{unseen-all, unseen-few}
 use Rattle.wp_plain.proofs.ReachedLemmas.{reached-children}
 use Rattle.wp_plain.proofs.NodeLemmas.{nodes-children, pairs_in-numbered, generated_in-set}
-use Rattle.wp_plain.proofs.ChildLemmas.{bare-children, unseen-bare, unseen-few, unseen-all, fresh-numbered}
+use Rattle.wp_plain.proofs.ChildLemmas.{bare-children, unseen-bare, fresh-numbered}
 use Rattle.wp_plain.proofs.EventLemmas.{length-numbered, length-borns, event-expanded}
 
 -- the definition's expansion, by its parts

@@ -1,26 +1,21 @@
 -- The limits of a search: how many expansions there are, what has come about at a limit, and limits that are enough.
-use Rattle.std.proofs.Common.{◌≡◌, ◌⊎◌, ℕ, zero, suc, ◌+◌, ◌-◌, ◌*◌, ◌/◌, ◌<◌, ◌≤◌, Bool, true, false, cond, List, [], ◌∷◌, ◌++◌, Some, length, map, set, get_or, refl, sym, ap, ◌∙◌, subst, inl, inr, arith, Contains, filter, length-append}
-use Rattle.std.specs.Bool.{beq}
-use Rattle.std.specs.Cmp.{booleans_Decides}
-use Rattle.std.specs.Cmp.Lexicographic.{pointwise}
-use Rattle.std.specs.List.{list_any}
+use Rattle.std.proofs.Common.{◌≡◌, ◌⊎◌, ℕ, zero, suc, ◌+◌, ◌-◌, ◌*◌, ◌/◌, ◌<◌, ◌≤◌, Bool, true, cond, List, [], ◌∷◌, ◌++◌, Some, length, map, set, get_or, refl, sym, ap, ◌∙◌, subst, inl, inr, arith, Contains, filter, length-append}
 use Rattle.std.proofs.Math.Nat.{mul-suc}
 use Rattle.std.proofs.lemmas.Nat.{mul-le}
-use Rattle.std.proofs.lemmas.Slice.Eq.{slice_eq-Decides}
-use Rattle.std.proofs.lemmas.Bool.{both_ways, ltb-true}
+use Rattle.std.proofs.lemmas.Bool.{ltb-true}
 use Rattle.std.proofs.lemmas.List.{get_or_default, length-map, length_push}
 use Rattle.std.proofs.lemmas.List.Elements.{filter-append}
 use Rattle.std.proofs.lemmas.List.Sums.{length-filter}
 use Rattle.wp_task.specs.Task.{PlanningTask, IsReachable}
 use Rattle.wp_task.specs.Novelty.{Generated}
-use Rattle.wp_task.proofs.Members.{In, In-from_Contains, Contains-from_In, In-filter, In-append_left, In-append_right, list_any-from}
+use Rattle.wp_task.proofs.Members.{In, In-from_Contains, Contains-from_In, In-filter, In-append_right}
 use Rattle.wp_plain.specs.declared.settings.Search.TheVariants.{F5}
 use Rattle.wp_plain.specs.declared.settings.Settings.{Settings}
 use Rattle.wp_plain.specs.declared.ending.How.{How}
 use Rattle.wp_plain.specs.declared.ending.How.TheVariants.{Found, Emptied, Budget, Words}
 use Rattle.wp_plain.specs.Nodes.{Node, Successor, path_at, generated_in, states_kept, first_waiting, left}
 use Rattle.wp_plain.specs.Pairs.{pairs_in, tuple_count, exceeds}
-use Rattle.wp_plain.specs.Expansion.{path_counters, borns_of, event_of, successors_of, unseen, fresh_of, node_of}
+use Rattle.wp_plain.specs.Expansion.{path_counters, borns_of, event_of, successors_of, fresh_of, node_of}
 use Rattle.wp_plain.specs.Run.{Moment, ending_of, opening, run, all_at, fresh_at, nodes_at, repeats_at}
 use Rattle.wp_plain.specs.Laws.{AreStatesKept, ExpansionsAreFew, TuplesAreCounted, BudgetIsSpent, WordsAreExceeded, BudgetIsEnough, LimitsAreEnough}
 use Rattle.wp_plain.proofs.TupleLemmas.{ones, twos, half}
@@ -32,6 +27,7 @@ use Rattle.wp_plain.proofs.EmptiedLemmas.{IsOpen, emptied_is_closed, keeps-open,
 use Rattle.wp_plain.proofs.CounterPairs.{traced-few}
 use Rattle.wp_plain.proofs.Pigeons.{AreApart, AreApart-append, apart_pairs, pigeons}
 use Rattle.wp_plain.proofs.SparseLemmas.{kept_at_end}
+pub use Rattle.wp_plain.proofs.UnseenLemmas.{unseen-apart, unseen-new}
 
 -- ---- how many tuples there are
 pub tuples_are_counted : TuplesAreCounted
@@ -134,35 +130,6 @@ budget_is_enough task settings tuples counted place fits kbfws counting enough i
     absurd (omega arith)
 
 -- ---- the states that BFWS(f5) keeps
-pub seen_from_there : (seen : List (List Bool)) (s : List Bool) → In s seen → list_any (pointwise beq s) seen ≡ true
-seen_from_there seen s there =
-    list_any-from (pointwise beq s) seen s there ((slice_eq-Decides booleans_Decides s s (pointwise beq s s) refl).1 refl)
-
-module _ {X : Type 0} (state : X → List Bool) where
-  -- the states of what is unseen differ from those that were seen, and from each other
-  pub unseen-new : (seen : List (List Bool)) (xs : List X) (s : List Bool) → In s (map state (unseen state seen xs)) → In s seen → ⊥
-  unseen-new seen [] s there old = absurd there
-  unseen-new seen (x ∷ xs) s there old =
-      by (list_any (pointwise beq (state x)) seen) refl there (unseen-new seen xs s) (unseen-new (seen ++ state x ∷ []) xs s) where
-        by : (b : Bool) → list_any (pointwise beq (state x)) seen ≡ b →
-            In s (map state (elim b as (λ _. List X) [ true ↦ unseen state seen xs | false ↦ x ∷ unseen state (seen ++ state x ∷ []) xs ])) →
-            (In s (map state (unseen state seen xs)) → In s seen → ⊥) →
-            (In s (map state (unseen state (seen ++ state x ∷ []) xs)) → In s (seen ++ state x ∷ []) → ⊥) → ⊥
-        by true is among rest later = rest among old
-        by false is (inl same) rest later =
-            both_ways (list_any (pointwise beq (state x)) seen) is (seen_from_there seen (state x) (subst (λ t. In t seen) same old))
-        by false is (inr among) rest later = later among (In-append_left seen (state x ∷ []) s old)
-
-  pub unseen-apart : (seen : List (List Bool)) (xs : List X) → AreApart (map state (unseen state seen xs))
-  unseen-apart seen [] = tt
-  unseen-apart seen (x ∷ xs) =
-      by (list_any (pointwise beq (state x)) seen) (unseen-apart seen xs) (unseen-apart (seen ++ state x ∷ []) xs) where
-        by : (b : Bool) → AreApart (map state (unseen state seen xs)) → AreApart (map state (unseen state (seen ++ state x ∷ []) xs)) →
-            AreApart (map state (elim b as (λ _. List X) [ true ↦ unseen state seen xs | false ↦ x ∷ unseen state (seen ++ state x ∷ []) xs ]))
-        by true rest later = rest
-        by false rest later =
-            (λ there. unseen-new (seen ++ state x ∷ []) xs (state x) there (In-append_right seen (state x ∷ []) (state x) (inl refl)), later)
-
 kept-all : (nodes : List Node) → ((x : Node) → In x nodes → x.kept ≡ true) → states_kept nodes ≡ map (λ n. n.generated.state) nodes
 kept-all [] kept = refl
 kept-all (x ∷ nodes) kept =

@@ -11,7 +11,6 @@ use Rattle.std.specs.Cmp.{unsigned_Decides}
 use Rattle.std.specs.Cmp.Lexicographic.{pointwise}
 use Rattle.std.specs.Prelude.{nat_eq}
 use Rattle.wp_task.specs.Set.{has, IsIn, atoms_in}
-use Rattle.wp_task.specs.Task.{PlanningTask}
 use Rattle.wp_task.specs.Novelty.{Generated, IsNewAt, sets_of, is_earlier, is_new, has_new, novelty_of, tuples_in}
 use Rattle.wp_task.proofs.Members.{In, In-at, In-from_Contains, Contains-from_In, list_all-at, list_all-from, list_any-at, In-filter, In-filter_cases, In-map, In-map_cases, In-append_left, In-append_right, In-append_cases}
 use Rattle.wp_plain.specs.Nodes.{Successor}

@@ -1,22 +1,18 @@
 -- The nodes and paths after an expansion: each node is one of before, or a child with the path to it.
-use Rattle.std.proofs.Common.{◌≡◌, ◌⊎◌, ℕ, suc, ◌+◌, ◌<◌, Bool, true, false, List, [], ◌∷◌, ◌++◌, length, map, get_or, set, refl, sym, ap, ◌∙◌, subst, inl, inr, arith, length-append, length-set}
-use Rattle.std.specs.List.{filter, list_any, range_with_len}
-use Rattle.std.specs.Bool.{beq}
-use Rattle.std.specs.Cmp.{booleans_Decides}
-use Rattle.std.specs.Cmp.Lexicographic.{pointwise}
+use Rattle.std.proofs.Common.{◌≡◌, ◌⊎◌, ℕ, suc, ◌+◌, ◌<◌, Bool, true, List, [], ◌∷◌, ◌++◌, length, map, get_or, set, refl, sym, ap, ◌∙◌, subst, inl, inr, arith, length-append, length-set}
+use Rattle.std.specs.List.{filter, range_with_len}
 use Rattle.std.proofs.Math.Seq.{map-set_same}
 use Rattle.std.proofs.lemmas.List.{map-append, length-map, get_or-append-add, get_or_append_left}
 use Rattle.std.proofs.lemmas.List.Elements.{All-contains, filter-append}
 use Rattle.std.proofs.lemmas.List.FromFn.{get_or-range_with_len, length-range_with_len}
-use Rattle.std.proofs.lemmas.Slice.Eq.{slice_eq-Decides}
 use Rattle.wp_task.specs.declared.acts.Act.{Act}
 use Rattle.wp_task.specs.Task.{PlanningTask, act_at, applies, applicable_in, result_of}
 use Rattle.wp_task.specs.Novelty.{Generated, novelty_of}
-use Rattle.wp_task.proofs.Members.{In-from_Contains, In, In-at, Contains-from_In, In-map, In-map_cases, In-filter, In-filter_cases, In-append_cases, list_any-at}
+use Rattle.wp_task.proofs.Members.{In-from_Contains, In, In-at, Contains-from_In, In-map, In-map_cases, In-filter, In-filter_cases, In-append_cases}
 use Rattle.wp_task.proofs.TaskLemmas.{range_below}
 use Rattle.wp_plain.specs.declared.settings.Settings.{Settings}
 use Rattle.wp_plain.specs.Nodes.{Node, left, Path, Successor, no_path, path_at, extended, generated_in, states_kept}
-use Rattle.wp_plain.specs.Expansion.{path_counters, successors_of, unseen, generated_at, fresh_of, with_novelty, node_of}
+use Rattle.wp_plain.specs.Expansion.{path_counters, successors_of, generated_at, fresh_of, with_novelty, node_of}
 use Rattle.wp_plain.specs.Run.{Moment, expanded, fresh_at, children_at, all_at, nodes_at, repeats_at}
 use Rattle.wp_plain.specs.Numbers.{CountUp, IsNumbered, NodesAreNumbered}
 use Rattle.wp_plain.proofs.NumberLemmas.{number_below, one_node, node_there, CountUp-append, CountUp-set, In-set_cases, kept-set}
@@ -54,49 +50,6 @@ pub successor_there : (acts : List Act) (state : List Bool) (a : ℕ) → a < le
 successor_there acts state a within applied =
     In-map (λ b. record { act = b; state = result_of (act_at acts b) state }) (applicable_in acts state) a
     (In-filter (λ b. applies (act_at acts b) state) (range_with_len 0 (length acts)) a (In-range (length acts) a within) applied)
-
--- ---- what is unseen
-same_state : (s t : List Bool) → pointwise beq s t ≡ true → s ≡ t
-same_state s t = (slice_eq-Decides booleans_Decides s t (pointwise beq s t) refl).0
-
-pub seen_there : (seen : List (List Bool)) (s : List Bool) → list_any (pointwise beq s) seen ≡ true → In s seen
-seen_there seen s some =
-    let found : (t : List Bool) × In t seen × (pointwise beq s t ≡ true) = list_any-at (pointwise beq s) seen some in
-    subst (λ t. In t seen) (sym (same_state s found.0 found.2)) found.1
-
-module _ {X : Type 0} (state : X → List Bool) where
-  pub unseen-sub : (seen : List (List Bool)) (xs : List X) (x : X) → In x (unseen state seen xs) → In x xs
-  unseen-sub seen [] x there = absurd there
-  unseen-sub seen (y ∷ xs) x there = by (list_any (pointwise beq (state y)) seen) there (unseen-sub seen xs x) (unseen-sub (seen ++ state y ∷ []) xs x) where
-    by : (b : Bool) → In x (elim b as (λ _. List X) [ true ↦ unseen state seen xs | false ↦ y ∷ unseen state (seen ++ state y ∷ []) xs ]) →
-        (In x (unseen state seen xs) → In x xs) → (In x (unseen state (seen ++ state y ∷ []) xs) → In x xs) → In x (y ∷ xs)
-    by true there old new = inr (old there)
-    by false (inl same) old new = inl same
-    by false (inr later) old new = inr (new later)
-
-  -- each state is that of a seen one or of an unseen one
-  pub unseen_covers : (seen : List (List Bool)) (xs : List X) (x : X) → In x xs → In (state x) seen ⊎ In (state x) (map state (unseen state seen xs))
-  unseen_covers seen [] x there = absurd there
-  unseen_covers seen (y ∷ xs) x there =
-      by (list_any (pointwise beq (state y)) seen) refl there (unseen_covers seen xs x) (unseen_covers (seen ++ state y ∷ []) xs x) where
-        behind : In (state x) (seen ++ state y ∷ []) ⊎ In (state x) (map state (unseen state (seen ++ state y ∷ []) xs)) →
-            In (state x) seen ⊎ In (state x) (state y ∷ map state (unseen state (seen ++ state y ∷ []) xs))
-        behind (inr later) = inr (inr later)
-        behind (inl before) = at (In-append_cases seen (state y ∷ []) (state x) before) where
-          at : In (state x) seen ⊎ In (state x) (state y ∷ []) →
-              In (state x) seen ⊎ In (state x) (state y ∷ map state (unseen state (seen ++ state y ∷ []) xs))
-          at (inl old) = inl old
-          at (inr (inl same)) = inr (inl same)
-          at (inr (inr none)) = absurd none
-
-        by : (b : Bool) → list_any (pointwise beq (state y)) seen ≡ b → In x (y ∷ xs) →
-            (In x xs → In (state x) seen ⊎ In (state x) (map state (unseen state seen xs))) →
-            (In x xs → In (state x) (seen ++ state y ∷ []) ⊎ In (state x) (map state (unseen state (seen ++ state y ∷ []) xs))) →
-            In (state x) seen ⊎ In (state x) (map state (elim b as (λ _. List X) [ true ↦ unseen state seen xs | false ↦ y ∷ unseen state (seen ++ state y ∷ []) xs ]))
-        by true is (inl same) old new = inl (subst (λ s. In s seen) (ap state (sym same)) (seen_there seen (state y) is))
-        by true is (inr later) old new = old later
-        by false is (inl same) old new = inr (inl (ap state same))
-        by false is (inr later) old new = behind (new later)
 
 -- ---- children
 module _ (counters : List (List Bool) → ℕ × ℕ) (settings : Settings) (all : List Generated) (p : Path) where

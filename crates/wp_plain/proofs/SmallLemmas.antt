@@ -1,20 +1,20 @@
 -- No number of a run reaches 2^63: an expansion has at most as many children as there are actions.
-use Rattle.std.proofs.Common.{◌≡◌, ℕ, ◌+◌, ◌-◌, ◌*◌, ◌^◌, ◌<◌, ◌≤◌, Bool, true, false, cond, List, [], ◌∷◌, ◌++◌, length, map, set, ap, ◌∙◌, arith, Contains, filter, fold, count_by, length-append, length-set}
+use Rattle.std.proofs.Common.{◌≡◌, ℕ, ◌+◌, ◌*◌, ◌<◌, ◌≤◌, Bool, true, false, cond, List, [], ◌∷◌, ◌++◌, length, map, set, arith, filter, fold, count_by, length-append, length-set}
 use Rattle.std.specs.List.{range_with_len, sum_by}
 use Rattle.std.proofs.lemmas.List.{length-map, length_push}
 use Rattle.std.proofs.lemmas.List.FromFn.{length-range_with_len}
 use Rattle.std.proofs.lemmas.List.Sums.{count_by-le-length, length-filter, sum_by_push}
 use Rattle.wp_task.specs.declared.acts.Act.{Act}
 use Rattle.wp_task.specs.Task.{PlanningTask, act_at, applicable_in, applies, result_of}
-use Rattle.wp_task.proofs.Members.{In, In-from_Contains}
+use Rattle.wp_task.proofs.Members.{In-from_Contains}
 use Rattle.wp_watch.specs.declared.event.Event.{Event}
 use Rattle.wp_plain.specs.declared.settings.Settings.{Settings}
-use Rattle.wp_plain.specs.Nodes.{Node, Successor, left, path_at, generated_in, states_kept}
+use Rattle.wp_plain.specs.Nodes.{Successor, left, path_at, generated_in, states_kept}
 use Rattle.wp_plain.specs.Pairs.{has_pair, with_pair, pairs_in}
 use Rattle.wp_plain.specs.Expansion.{path_counters, borns_of, event_of, successors_of}
 use Rattle.wp_plain.specs.Run.{Moment, fresh_at, all_at, nodes_at, repeats_at, opening, run}
 use Rattle.wp_plain.specs.Laws.{NumbersAreSmall}
-use Rattle.wp_plain.proofs.ChildLemmas.{unseen-few}
+use Rattle.wp_plain.proofs.UnseenLemmas.{unseen-few}
 use Rattle.wp_plain.proofs.NumberLemmas.{number_below}
 use Rattle.wp_plain.proofs.NextNodes.{length-children}
 use Rattle.wp_plain.proofs.TraceLemmas.{Keeps, ended}

@@ -1,16 +1,15 @@
 -- A step taken apart, and what holds at the end of every run.
-use Rattle.std.proofs.Common.{◌≡◌, ◌⊎◌, ◌==◌, ℕ, zero, suc, ◌+◌, ◌-◌, ◌≤◌, Bool, true, false, List, ◌++◌, Option, Some, None, length, map, refl, ap, ◌∙◌, subst, inr, inl, arith, Contains, MatchOption}
+use Rattle.std.proofs.Common.{◌≡◌, ◌⊎◌, ◌==◌, ℕ, zero, suc, ◌+◌, ◌≤◌, Bool, true, false, List, Option, Some, None, length, refl, ap, ◌∙◌, subst, inr, inl, arith, Contains, MatchOption}
 use Rattle.std.proofs.lemmas.Bool.{eqb-true, eqb-false}
 use Rattle.std.proofs.lemmas.List.{length_push}
 use Rattle.wp_task.specs.Task.{PlanningTask}
-use Rattle.wp_task.specs.Novelty.{Generated}
 use Rattle.wp_task.proofs.Members.{In, In-from_Contains, Contains-from_In}
 use Rattle.wp_plain.specs.declared.settings.Settings.{Settings}
 use Rattle.wp_plain.specs.declared.ending.How.{How}
 use Rattle.wp_plain.specs.declared.ending.How.TheVariants.{Found, Emptied, Budget, Words}
-use Rattle.wp_plain.specs.Nodes.{Node, Successor, path_at, generated_in, states_kept, first_waiting, IsFirst}
+use Rattle.wp_plain.specs.Nodes.{Node, path_at, first_waiting, IsFirst}
 use Rattle.wp_plain.specs.Pairs.{pairs_in, exceeds}
-use Rattle.wp_plain.specs.Expansion.{successors_of, unseen, fresh_of, node_of, borns_of, event_of}
+use Rattle.wp_plain.specs.Expansion.{borns_of, event_of}
 use Rattle.wp_plain.specs.Run.{Moment, Outcome, fresh_at, all_at, nodes_at, repeats_at, expanded, expand, look_at, step, run_from, run, opening}
 use Rattle.wp_plain.specs.Run.Outcome.{Goes, Ends}
 use Rattle.wp_plain.proofs.FirstLemmas.{first_is_least}

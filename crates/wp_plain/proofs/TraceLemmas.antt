@@ -16,8 +16,9 @@ use Rattle.wp_plain.specs.Nodes.{Node, Path, path_at, extended, states_kept, lef
 use Rattle.wp_plain.specs.Expansion.{path_counters, root_of, successors_of}
 use Rattle.wp_plain.specs.Run.{Moment, opening, run, fresh_at, all_at}
 use Rattle.wp_plain.specs.Numbers.{IsNumbered}
+use Rattle.wp_plain.proofs.UnseenLemmas.{unseen-sub}
 use Rattle.wp_plain.proofs.StepCases.{first_there, IsEnd, IsExpansion, at_run}
-use Rattle.wp_plain.proofs.NextNodes.{IsChild, IsNext, next, next_cases, numbered-next, path-child, path-older, successor_by, unseen-sub}
+use Rattle.wp_plain.proofs.NextNodes.{IsChild, IsNext, next, next_cases, numbered-next, path-child, path-older, successor_by}
 use Rattle.wp_plain.proofs.NextNodes.IsNext.{expanded_one, older, child}
 
 -- ---- one action more

@@ -6,7 +6,7 @@ use Rattle.wp_plain.specs.Pairs.{with_pair, exceeds}
 use Rattle.wp_plain.specs.Expansion.{unseen}
 use Rattle.wp_plain.specs.Run.Outcome.{Ends}
 use Rattle.wp_plain.specs.Explored.{child_pair, brood_at, lists_of}
-use Rattle.wp_plain.proofs.ChildLemmas.{unseen-few}
+use Rattle.wp_plain.proofs.UnseenLemmas.{unseen-few}
 use Rattle.wp_plain.proofs.ExpandLemmas.{IsBrood, IsCommitted, expand-words, expand-goes, can-tell}
 use Rattle.wp_plain.proofs.search.expand.Goals as goal
 

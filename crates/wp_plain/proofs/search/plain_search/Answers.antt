@@ -1,8 +1,5 @@
 use Rattle.std.proofs.Common.{◌≡◌, ℕ, ap, sym, subst, ◌∙◌}
-use Rattle.wp_plain.specs.declared.ending.How.{How}
-use Rattle.wp_plain.specs.declared.ending.Ending.{Ending}
 use Rattle.wp_plain.specs.Pairs.{tuple_count, all_tuples}
-use Rattle.wp_plain.specs.Run.{ending_of}
 use Rattle.wp_plain.specs.Places.{places_in}
 use Rattle.wp_plain.specs.Explored.{watched, RunsWhole}
 use Rattle.wp_plain.specs.Laws.{AnswersFor}
