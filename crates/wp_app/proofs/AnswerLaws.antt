@@ -28,8 +28,8 @@ use Rattle.wp_plain.specs.declared.settings.Settings.{Settings}
 use Rattle.wp_plain.specs.declared.ending.Ending.{Ending}
 use Rattle.wp_plain.specs.declared.ending.How.{How}
 use Rattle.wp_plain.specs.declared.ending.How.TheVariants.{Found, Emptied, Budget, Words}
-use Rattle.wp_plain.specs.Laws.{FoundIsPlan, EmptiedHasNoPlan, ExpansionsAreFew, BudgetIsEnough, LimitsAreEnough}
-use Rattle.wp_plain.specs.Pairs.{tuple_count}
+use Rattle.wp_plain.specs.Laws.{FoundIsPlan, EmptiedHasNoPlan, EndingsOfAllAnswer}
+use Rattle.wp_plain.specs.Pairs.{all_tuples, tuple_count}
 use Rattle.wp_plain.specs.Run.{run, ending_of}
 use Rattle.wp_report.specs.Tasks.{name_at}
 use Rattle.wp_report.specs.Endings.{ending_line, ending_text, found_steps, found_text, plan_text}
@@ -63,9 +63,9 @@ run_plan domain problem settings watch plain watchers files texts read = ap (λ 
 
 -- what the watchers say of the search of a task
 abbrev said : Settings → List (WatchKind × Option ℕ) → Grounded → List (List ℕ)
-said settings watchers grounded = texts_after watchers (run grounded.task settings).1.events
+said settings watchers grounded = texts_after watchers (run grounded.task settings (all_tuples grounded.task settings)).1.events
 
-searched : (settings : Settings) (watchers : List (WatchKind × Option ℕ)) (grounded : Grounded) (ending : Ending) → ending_of grounded.task settings ≡ ending
+searched : (settings : Settings) (watchers : List (WatchKind × Option ℕ)) (grounded : Grounded) (ending : Ending) → ending_of grounded.task settings (all_tuples grounded.task settings) ≡ ending
     → searched_reply settings watchers grounded ≡ with_texts (ending_reply settings grounded ending) (said settings watchers grounded)
 unfolding searched_reply
 searched settings watchers grounded ending ends = ap (λ (one : Ending). with_texts (ending_reply settings grounded one) (said settings watchers grounded)) ends
@@ -133,7 +133,7 @@ found_read_back found_is_plan plans_are_valid read_back asked files settings lif
     let formed = is_formed asked files settings lifted of in
     let task = task_goes lifted is.grounded is.grounds in
     let planned : is_plan is.grounded.task plan ≡ true =
-    found_is_plan is.grounded.task settings plan (ap (λ (end : Ending). end.how) is.ends ∙ found) in
+    found_is_plan is.grounded.task settings (all_tuples is.grounded.task settings) plan (ap (λ (end : Ending). end.how) is.ends ∙ found) in
     let here : is_plan (task_of lifted) plan ≡ true =
     subst (λ (one : Grounded). is_plan one.task plan ≡ true) (sym task.1) planned in
     let valid = (plans_are_valid lifted formed (admitted lifted task.0).all_reached plan).0 here in
@@ -146,7 +146,7 @@ found_read_back found_is_plan plans_are_valid read_back asked files settings lif
     read_back texts.domain_text texts.problem_text of.texts.domain of.texts.problem lifted (map (instance_at lifted) plan) comments
     texts.is_domain texts.is_problem (lifted_finely of.texts.domain of.texts.problem lifted of.lifts) valid.1
     (comments_join line_of more (found_is_comment (length plan) ending.counts)
-    (texts_are_comments (watchers_of asked files settings lifted of) (run is.grounded.task settings).1.events)) in
+    (texts_are_comments (watchers_of asked files settings lifted of) (run is.grounded.task settings (all_tuples is.grounded.task settings)).1.events)) in
     let text =
     ap (λ (front : List ℕ). front ++ more)
     (found_reply settings lifted is.grounded ending plan found task.1
@@ -178,7 +178,7 @@ emptied_no_plan emptied plans_are_valid numbered asked files settings lifted end
     let goals = (admitted lifted task.0).all_reached in
     let none : (plan : List ℕ) → is_plan (task_of lifted) plan ≡ false =
     λ plan. subst (λ (one : Grounded). is_plan one.task plan ≡ false) (sym task.1)
-    (emptied is.grounded.task settings search (ap (λ (end : Ending). end.how) is.ends ∙ how) plan) in
+    (emptied is.grounded.task settings (all_tuples is.grounded.task settings) search (ap (λ (end : Ending). end.how) is.ends ∙ how) plan) in
     ⊎_elim
     (λ (valid : is_valid lifted plan ≡ true). absurd (valid_in_task plans_are_valid numbered lifted formed goals none plan valid))
     (λ (not_valid : is_valid lifted plan ≡ false). not_valid)
@@ -187,7 +187,7 @@ emptied_no_plan emptied plans_are_valid numbered asked files settings lifted end
 -- the search that ended so is that of the problem's task, which is within the limits
 record IsOfTask (settings : Settings) (lifted : Lifting) (ending : Ending) : Type 0 where
   fits : IsTask (task_of lifted)
-  ends : ending_of (task_of lifted) settings ≡ ending
+  ends : ending_of (task_of lifted) settings (all_tuples (task_of lifted) settings) ≡ ending
 
 of_task : (asked : Asked) (files : Contents) (settings : Settings) (lifted : Lifting) (ending : Ending)
     → IsSearched asked files settings lifted ending → IsOfTask settings lifted ending
@@ -199,14 +199,14 @@ of_task asked files settings lifted ending is =
           task-fits lifted (atoms_of lifted is_reached) (steps_of lifted is_reached)
           (ltb-false 65536 (length (atoms_of lifted is_reached)) is_admitted.few_atoms)
           (ltb-false 1048576 (length (steps_of lifted is_reached)) is_admitted.few_acts);
-      ends = ap (λ (one : Grounded). ending_of one.task settings) task.1 ∙ is.ends;
+      ends = ap (λ (one : Grounded). ending_of one.task settings (all_tuples one.task settings)) task.1 ∙ is.ends;
     }
 
-pub bounded : ExpansionsAreFew → SearchesAreBounded
-bounded few asked files settings lifted ending is search =
+pub bounded : EndingsOfAllAnswer → SearchesAreBounded
+bounded answer asked files settings lifted ending is search =
     let of = of_task asked files settings lifted ending is in
     subst (λ (end : Ending). end.counts.expanded ≤ 1 + end.counts.pairs * tuple_count settings.width (task_of lifted).atoms) of.ends
-    (few (task_of lifted) settings of.fits search)
+    ((answer (task_of lifted) settings of.fits).few search)
 
 -- that the budget is spent is the answer of that ending alone
 spent_ending : (search : Search) (how : How) → ending_status search how ≡ statuses.Budget → how ≡ Budget
@@ -216,29 +216,29 @@ spent_ending KBfws Emptied e = cc
 spent_ending search Budget e = refl
 spent_ending search (Words pairs) e = cc
 
-pub not_spent : BudgetIsEnough → LargeBudgetsAreNotSpent
-not_spent enough asked files settings lifted ending is search large =
+pub not_spent : EndingsOfAllAnswer → LargeBudgetsAreNotSpent
+not_spent answer asked files settings lifted ending is search large =
     let of = of_task asked files settings lifted ending is in
     let above =
     subst (λ (end : Ending). 1 + end.counts.pairs * tuple_count settings.width (task_of lifted).atoms ≤ settings.budget) (sym of.ends) large in
     let goes_on : ending.how ≡ Budget → ⊥ =
-    (λ (spent : ending.how ≡ Budget). enough (task_of lifted) settings of.fits search above (ap (λ (end : Ending). end.how) of.ends ∙ spent)) in (
+    (λ (spent : ending.how ≡ Budget). (answer (task_of lifted) settings of.fits).unspent search above (ap (λ (end : Ending). end.how) of.ends ∙ spent)) in (
       answer_with asked files settings lifted ending is,
       answered asked files settings lifted ending is,
       λ e. goes_on (spent_ending settings.search ending.how (sym (status_by settings is.grounded ending ending.how refl) ∙ e)),
     )
 
-pub not_reached : LimitsAreEnough → LargeLimitsAreNotReached
-not_reached enough asked files settings lifted ending states is search all few large =
+pub not_reached : EndingsOfAllAnswer → LargeLimitsAreNotReached
+not_reached answer asked files settings lifted ending states is search all few large =
     let of = of_task asked files settings lifted ending is in
     let task = task_of lifted in
-    let how : (ending_of task settings).how ≡ ending.how = ap (λ (end : Ending). end.how) of.ends in
+    let how : (ending_of task settings (all_tuples task settings)).how ≡ ending.how = ap (λ (end : Ending). end.how) of.ends in
     let reply = answer_with asked files settings lifted ending is in
     let status : (reply.status ≡ statuses.Done) ⊎ (reply.status ≡ statuses.NoPlan) =
     ⊎_elim
-    (λ (found : (plan : List ℕ) × ((ending_of task settings).how ≡ Found plan)).
+    (λ (found : (plan : List ℕ) × ((ending_of task settings (all_tuples task settings)).how ≡ Found plan)).
     inl (status_by settings is.grounded ending (Found found.0) (sym how ∙ found.1)))
-    (λ (emptied : (ending_of task settings).how ≡ Emptied).
+    (λ (emptied : (ending_of task settings (all_tuples task settings)).how ≡ Emptied).
     inr (status_by settings is.grounded ending Emptied (sym how ∙ emptied) ∙ ap (λ (one : Search). ending_status one Emptied) search))
-    (enough task settings states of.fits search all few large) in
+    ((answer task settings of.fits).decided states search all few large) in
     (reply, answered asked files settings lifted ending is, status)

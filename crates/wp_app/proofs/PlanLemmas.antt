@@ -11,6 +11,7 @@ use Rattle.wp_plain.specs.declared.ending.Ending.{Ending}
 use Rattle.wp_plain.specs.declared.ending.How.{How}
 use Rattle.wp_plain.specs.declared.ending.How.TheVariants.{Found, Emptied, Budget, Words}
 use Rattle.wp_plain.specs.Laws.{FoundIsPlan}
+use Rattle.wp_plain.specs.Pairs.{all_tuples}
 use Rattle.wp_plain.specs.Run.{ending_of}
 use Rattle.wp_report.specs.Endings.{IsPlanBelow}
 
@@ -29,14 +30,14 @@ below acts goals state (a ∷ plan) e =
     let there = and_parts (nat_lt a (length acts)) (applies act state) on.0 in
     (ltb-true a (length acts) there.0, below acts goals (result_of act state) plan on.1)
 
-how_below : FoundIsPlan → (task : PlanningTask) (settings : Settings) (how : How) → (ending_of task settings).how ≡ how
+how_below : FoundIsPlan → (task : PlanningTask) (settings : Settings) (how : How) → (ending_of task settings (all_tuples task settings)).how ≡ how
     → IsPlanBelow (length task.acts) how
 how_below found task settings (Found plan) e =
-    All-from_recursion (λ (a : ℕ). a < length task.acts) plan (below task.acts task.goals task.init plan (found task settings plan e))
+    All-from_recursion (λ (a : ℕ). a < length task.acts) plan (below task.acts task.goals task.init plan (found task settings (all_tuples task settings) plan e))
 how_below found task settings Emptied e = tt
 how_below found task settings Budget e = tt
 how_below found task settings (Words pairs) e = tt
 
-pub found_below : FoundIsPlan → (task : PlanningTask) (settings : Settings) (ending : Ending) → ending ≡ ending_of task settings
+pub found_below : FoundIsPlan → (task : PlanningTask) (settings : Settings) (ending : Ending) → ending ≡ ending_of task settings (all_tuples task settings)
     → IsPlanBelow (length task.acts) ending.how
 found_below found task settings ending same = how_below found task settings ending.how (ap (λ (end : Ending). end.how) (sym same))

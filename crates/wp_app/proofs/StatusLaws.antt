@@ -29,6 +29,7 @@ use Rattle.wp_plain.specs.declared.settings.Settings.{Settings}
 use Rattle.wp_plain.specs.declared.ending.Ending.{Ending}
 use Rattle.wp_plain.specs.declared.ending.How.{How}
 use Rattle.wp_plain.specs.declared.ending.How.TheVariants.{Found, Emptied, Budget, Words}
+use Rattle.wp_plain.specs.Pairs.{all_tuples}
 use Rattle.wp_plain.specs.Run.{ending_of}
 use Rattle.wp_report.specs.Inputs.{too_long_text}
 use Rattle.wp_report.specs.Tasks.{ground_error_text}
@@ -193,7 +194,7 @@ searched asked files settings reply status later reach memory is same =
     (refused_later status later reach memory (refusal_of of.lifted) (grounded_of of.lifted)) of.replies same in
     let answer : searched_reply settings of.watchers last.0 ≡ reply = cc in record {
       lifted = of.lifted;
-      ending = ending_of last.0.task settings;
+      ending = ending_of last.0.task settings (all_tuples last.0.task settings);
       is_searched = record { lifts = of.lifts; grounded = last.0; grounds = last.1; ends = refl };
       how_status = ap (λ (one : Reply). one.status) answer;
     }
@@ -229,7 +230,7 @@ not_reached : (refusal : Option GroundError) (made : Grounded) (settings : Setti
     → (goal : ℕ) × (atom : List ℕ) × (refusal ≡ Some (GoalOutOfReach goal atom))
 unfolding searched_reply ending_reply
 not_reached None made settings watchers reply is e =
-    absurd (no_ending settings.search (ending_of made.task settings).how (status_of (searched_reply settings watchers made) reply e ∙ is))
+    absurd (no_ending settings.search (ending_of made.task settings (all_tuples made.task settings)).how (status_of (searched_reply settings watchers made) reply e ∙ is))
 not_reached (Some TooManyActs) made settings watchers reply is e =
     let same : statuses.Limit ≡ statuses.OutOfReach = status_of (record { text = ground_error_text TooManyActs; status = statuses.Limit }) reply e ∙ is in cc
 not_reached (Some TooManyAtoms) made settings watchers reply is e =

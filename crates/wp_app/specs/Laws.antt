@@ -17,7 +17,7 @@ use Rattle.wp_plain.specs.declared.settings.Search.TheVariants.{KBfws, F5}
 use Rattle.wp_plain.specs.declared.settings.Settings.{Settings}
 use Rattle.wp_plain.specs.declared.ending.Ending.{Ending}
 use Rattle.wp_plain.specs.declared.ending.How.TheVariants.{Found, Emptied}
-use Rattle.wp_plain.specs.Pairs.{tuple_count}
+use Rattle.wp_plain.specs.Pairs.{all_tuples, tuple_count}
 use Rattle.wp_plain.specs.Run.{ending_of}
 use Rattle.wp_app.specs.declared.reply.Reply.{Reply}
 use Rattle.wp_app.specs.declared.reply.Status.TheVariants as statuses
@@ -45,7 +45,7 @@ pub record IsSearched (asked : Asked) (files : Contents) (settings : Settings) (
   pub lifts : IsLifted asked files settings lifted
   pub grounded : Grounded
   pub grounds : grounded_step lifted ≡ goes grounded
-  pub ends : ending_of grounded.task settings ≡ ending
+  pub ends : ending_of grounded.task settings (all_tuples grounded.task settings) ≡ ending
 
 -- the text is read as steps that name these instances, and the steps are valid
 pub record IsReadAs (lifted : Lifting) (plan : List Instance) (text : List ℕ) : Type 0 where

@@ -46,7 +46,7 @@ use Rattle.wp_plain.specs.declared.settings.Settings.{Settings}
 use Rattle.wp_plain.specs.declared.ending.Ending.{Ending}
 use Rattle.wp_plain.specs.declared.ending.How.{How}
 use Rattle.wp_plain.specs.declared.ending.How.TheVariants as hows
-use Rattle.wp_plain.specs.Pairs.{tuple_count}
+use Rattle.wp_plain.specs.Pairs.{all_tuples, tuple_count}
 use Rattle.wp_plain.specs.Run.{run, ending_of}
 use Rattle.wp_watch.specs.declared.watch.WatchKind.{WatchKind}
 use Rattle.wp_watch.specs.Places.{texts_after}
@@ -193,8 +193,8 @@ with_texts reply texts = record reply { text = reply.text ++ flat_map (λ text. 
 -- the ending of the search of the task, and behind it what the watchers say of its events, in their order
 unfoldable pub searched_reply : Settings → List (WatchKind × Option ℕ) → Grounded → Reply
 searched_reply settings watchers grounded =
-    with_texts (ending_reply settings grounded (ending_of grounded.task settings))
-    (texts_after watchers (run grounded.task settings).1.events)
+    with_texts (ending_reply settings grounded (ending_of grounded.task settings (all_tuples grounded.task settings)))
+    (texts_after watchers (run grounded.task settings (all_tuples grounded.task settings)).1.events)
 
 unfoldable pub planned_step : Settings → List (WatchKind × Option ℕ) → Texts → Step Reply
 planned_step settings watchers texts = do

@@ -4,7 +4,7 @@ ghost use Rattle.wp_app.specs.Laws.{AnswersOfNoPlanAreTrue, DoneAnswersAreValidP
 
 use wp_check::plans_of_texts_are_read_back;
 use wp_ground::{plans_are_valid, unreached_goals_have_no_plan, valid_plans_are_numbered};
-use wp_plain::{emptied_has_no_plan, expansions_are_few, found_is_plan, limits_are_enough};
+use wp_plain::{emptied_has_no_plan, endings_answer, found_is_plan};
 
 /// Where a plan is found, the printed text, its last line with the counts included, is read back as the steps of that plan,
 /// and these steps are valid for the files that were read.
@@ -36,7 +36,7 @@ pub fn emptied_searches_have_no_plan()
 pub fn searches_are_bounded()
     ensures { SearchesAreBounded }
 {
-    expansions_are_few();
+    endings_answer();
 }
 
 /// Limits that are large enough end no search: where the budget of k-BFWS is above the bound on its expansions, the answer is not
@@ -46,7 +46,7 @@ pub fn large_limits_are_not_reached()
     ensures budget { LargeBudgetsAreNotSpent }
     ensures limits { LargeLimitsAreNotReached }
 {
-    limits_are_enough();
+    endings_answer();
 }
 
 /// Where `plan` answers that it is done, the printed text is read back as the steps of a valid plan for the files that were read.

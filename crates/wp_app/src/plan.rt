@@ -2,6 +2,7 @@
 
 ghost use Rattle.std.specs.Prelude.{◌≡◌, ◌≤◌, ◌++◌, ℕ, [], List, Option, length, IfOk, OnOk, IsTrue, IsUtf8};
 ghost use Rattle.wp_plain.specs.Ranges.{AreInRange};
+ghost use Rattle.wp_plain.specs.Pairs.{all_tuples};
 ghost use Rattle.wp_plain.specs.Run.{run, ending_of};
 ghost use Rattle.wp_watch.specs.declared.watch.WatchKind.{WatchKind};
 ghost use Rattle.wp_watch.specs.Places.{AreAfter, AreUntold};
@@ -130,9 +131,9 @@ fn search_task<R: Threads + Sync>(
 ) -> Result<Ending, AllocError>
     requires range { AreInRange settings.now }
     requires untold { AreUntold (places_in kind until told watchers.old) }
-    ensures ending { IfOk result (λ ending. ending ≡ ending_of task.now settings.now) }
+    ensures ending { IfOk result (λ ending. ending ≡ ending_of task.now settings.now (all_tuples task.now settings.now)) }
     ensures events { OnOk result ((list : List (WatchKind × Option ℕ)) → AreAfter list [] (places_in kind until told watchers.old) →
-        AreAfter list (run task.now settings.now).1.events (places_in kind until told watchers.new)) }
+        AreAfter list (run task.now settings.now (all_tuples task.now settings.now)).1.events (places_in kind until told watchers.new)) }
 {
     if plain {
         plain_search(alloc, task, settings, watchers)

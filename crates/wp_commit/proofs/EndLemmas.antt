@@ -14,7 +14,7 @@ use Rattle.wp_plain.specs.declared.ending.Ending.{Ending}
 use Rattle.wp_plain.specs.declared.ending.How.{How}
 use Rattle.wp_plain.specs.declared.ending.How.TheVariants.{Words}
 use Rattle.wp_plain.specs.Nodes.{generated_in}
-use Rattle.wp_plain.specs.Pairs.{pairs_in, tuple_count, exceeds}
+use Rattle.wp_plain.specs.Pairs.{all_tuples, pairs_in, tuple_count, exceeds}
 use Rattle.wp_plain.specs.Run.{Moment, opening, run, run_from, counts_of, ending_from, ending_of}
 use Rattle.wp_commit.specs.declared.searched.Searched.{Searched}
 use Rattle.wp_commit.specs.Newborns.{counters_of}
@@ -26,36 +26,36 @@ exceeds-is words tuples count tested is same test answer = ap (exceeds words 1) 
 
 module _ (task : PlanningTask) (settings : Settings) where
   abbrev begun : Bool → How × Moment
-  begun b = elim b as (λ _. How × Moment) [ true ↦ (Words 1, opening task settings) | false ↦ run_from task settings (settings.budget + 1) (opening task settings) ]
+  begun b = elim b as (λ _. How × Moment) [ true ↦ (Words 1, opening task settings) | false ↦ run_from task settings (all_tuples task settings) (settings.budget + 1) (opening task settings) ]
 
   -- the run is that of the steps from the opening, unless the root's pair wants too many words
   pub run-goes : exceeds settings.words 1 (tuple_count settings.width task.atoms) ≡ false → (how : How) (end : Moment) →
-      run_from task settings (settings.budget + 1) (opening task settings) ≡ (how, end) → run task settings ≡ (how, end)
+      run_from task settings (all_tuples task settings) (settings.budget + 1) (opening task settings) ≡ (how, end) → run task settings (all_tuples task settings) ≡ (how, end)
   run-goes few how end ran = ap begun few ∙ ran
 
-  pub run-stops : exceeds settings.words 1 (tuple_count settings.width task.atoms) ≡ true → run task settings ≡ (Words 1, opening task settings)
+  pub run-stops : exceeds settings.words 1 (tuple_count settings.width task.atoms) ≡ true → run task settings (all_tuples task settings) ≡ (Words 1, opening task settings)
   run-stops many = ap begun many
 
   -- how it ended, with what was counted
-  pub ends-as : (how : How) (counts : Counts) (end : Moment) → run task settings ≡ (how, end) → counts ≡ counts_of end →
-      record { how = how; counts = counts } ≡ ending_of task settings
+  pub ends-as : (how : How) (counts : Counts) (end : Moment) → run task settings (all_tuples task settings) ≡ (how, end) → counts ≡ counts_of end →
+      record { how = how; counts = counts } ≡ ending_of task settings (all_tuples task settings)
   ends-as how counts end ran counted =
       (λ j. (let x : Ending = record { how = how; counts = counted j } in x)) ∙ ap ending_from (sym ran)
 
   pub leaves-none : (tables : NoveltyTables) → exceeds settings.words 1 (tuple_count settings.width task.atoms) ≡ true → tables.tables ≡ [] →
       LeavesTables task settings tables
   leaves-none tables many empty =
-      subst (λ (b : Bool). MatchBool b (tables.tables ≡ []) (AreTables task settings tables (run task settings).1.nodes)) (sym many) empty
+      subst (λ (b : Bool). MatchBool b (tables.tables ≡ []) (AreTables task settings tables (run task settings (all_tuples task settings)).1.nodes)) (sym many) empty
 
   pub leaves-all : (tables : NoveltyTables) (how : How) (end : Moment) → exceeds settings.words 1 (tuple_count settings.width task.atoms) ≡ false →
-      run task settings ≡ (how, end) → AreTables task settings tables end.nodes → LeavesTables task settings tables
+      run task settings (all_tuples task settings) ≡ (how, end) → AreTables task settings tables end.nodes → LeavesTables task settings tables
   leaves-all tables how end few ran are =
-      subst (λ (b : Bool). MatchBool b (tables.tables ≡ []) (AreTables task settings tables (run task settings).1.nodes)) (sym few)
+      subst (λ (b : Bool). MatchBool b (tables.tables ≡ []) (AreTables task settings tables (run task settings (all_tuples task settings)).1.nodes)) (sym few)
       (subst (λ (r : How × Moment). AreTables task settings tables r.1.nodes) (sym ran) are)
 
   -- watchers that were told the events of the end were told those of the run
-  pub told-all : (how : How) (end : Moment) (list : List (WatchKind × Option ℕ)) (places : List Place) → run task settings ≡ (how, end) →
-      AreAfter list end.events places → AreAfter list (run task settings).1.events places
+  pub told-all : (how : How) (end : Moment) (list : List (WatchKind × Option ℕ)) (places : List Place) → run task settings (all_tuples task settings) ≡ (how, end) →
+      AreAfter list end.events places → AreAfter list (run task settings (all_tuples task settings)).1.events places
   told-all how end list places ran after = subst (λ (r : How × Moment). AreAfter list r.1.events places) (sym ran) after
 
 -- as many pairs are open as some node has

@@ -24,22 +24,23 @@ use Rattle.wp_nodes.specs.KeptNodes.{AreLinked, HasParent, IsKept}
 use Rattle.wp_nodes.specs.Links.{along}
 use Rattle.wp_plain.specs.declared.settings.Settings.{Settings}
 use Rattle.wp_plain.specs.declared.ending.How.TheVariants.{Words}
-use Rattle.wp_plain.specs.Nodes.{Node, Path, no_path, path_at, extended, generated_in, states_kept}
-use Rattle.wp_plain.specs.Pairs.{with_pair, pairs_in, tuple_count, exceeds}
-use Rattle.wp_plain.specs.Expansion.{successors_of, unseen, fresh_of, node_of, borns_of, event_of}
-use Rattle.wp_plain.specs.Run.{Moment, Outcome, expanded, expand}
+use Rattle.wp_plain.specs.Nodes.{Node, Path, no_path, path_at, extended, generated_in, states_kept, left}
+use Rattle.wp_plain.specs.Pairs.{all_tuples, with_pair, pairs_in, tuple_count, exceeds}
+use Rattle.wp_plain.specs.Expansion.{path_counters, successors_of, unseen, fresh_of, node_of, borns_of, event_of}
+use Rattle.wp_plain.specs.Run.{Moment, Outcome, expanded, expand, fresh_at, children_at, all_at, nodes_at, repeats_at}
 use Rattle.wp_plain.specs.Run.Outcome.{Goes, Ends}
 use Rattle.wp_plain.specs.Explored.{bare, child_pair, all_numbered, track_at}
-use Rattle.wp_plain.proofs.StepCases.{fresh_at, children_at, all_at, nodes_at, repeats_at}
 use Rattle.wp_plain.proofs.NumberLemmas.{number_below, kept-set}
-use Rattle.wp_plain.proofs.NextNodes.{left, node-at, generated-next, numbered-next, length-children}
+use Rattle.wp_plain.proofs.NextNodes.{node-at, generated-next, numbered-next, length-children}
 use Rattle.wp_plain.proofs.Pigeons.{AreApart}
 use Rattle.wp_plain.proofs.LimitLemmas.{unseen-apart, unseen-new}
 use Rattle.wp_plain.proofs.NodeLemmas.{pairs_in-numbered}
 use Rattle.wp_plain.proofs.ChildLemmas.{bare-children, unseen-bare, unseen-few, unseen-all, fresh-numbered}
+use Rattle.wp_commit.specs.declared.evaluation.Expansion.{Expansion}
 use Rattle.wp_commit.specs.declared.newborn.Newborn.{Newborn}
 use Rattle.wp_commit.specs.declared.searched.Searched.{Searched}
 use Rattle.wp_commit.specs.Newborns.{birth_of, counters_of, newborns_of, kept_as, with_newborns, waiting_of, born_as, event_as, AreNew, AreQueued, HasOpenPair, IsCommitted}
+use Rattle.wp_commit.specs.Expansions.{brood_of, IsExpansionOf}
 use Rattle.wp_commit.specs.Searched.{shown_kept, shown, plans_in, IsOnPath, AreCounted, AreWaiting, HoldsAt, IsTakenAt, StandsAt, without}
 use Rattle.wp_commit.proofs.ConditionLemmas.{all-from, children-open, last-below, length-numbered, newborns-new, pairs-few}
 use Rattle.wp_commit.proofs.WaitingLemmas.{waiting-later}
@@ -60,11 +61,11 @@ module _ (task : PlanningTask) (settings : Settings) (m : Moment) (node : Node) 
   tested b = elim b as (λ _. Outcome) [ true ↦ Ends (Words (length (pairs_in (all_at task m node)))) | false ↦ Goes after ]
 
   pub expand-ends : exceeds settings.words (length (pairs_in (all_at task m node))) (tuple_count settings.width task.atoms) ≡ true →
-      expand task settings m node ≡ Ends (Words (length (pairs_in (all_at task m node))))
+      expand task settings (all_tuples task settings) m node ≡ Ends (Words (length (pairs_in (all_at task m node))))
   expand-ends many = ap tested many
 
   pub expand-goes : exceeds settings.words (length (pairs_in (all_at task m node))) (tuple_count settings.width task.atoms) ≡ false →
-      expand task settings m node ≡ Goes after
+      expand task settings (all_tuples task settings) m node ≡ Goes after
   expand-goes few = ap tested few
 
 -- ---- kept nodes and nodes of the definition
@@ -150,7 +151,7 @@ module _ (task : PlanningTask) (settings : Settings) (s : Searched) (tables : No
         ∙ (unseen-bare (map (λ x. x.state) s.nodes.kept) brood ∙ ap (map bare) (sym fresh_is))
 
     children-are : children_at task m node ≡ nums
-    children-are = ap (fresh_of task path.states n) fresh-are ∙ sym (fresh-numbered task path.states track n fresh evaluated)
+    children-are = ap (fresh_of (path_counters task) path.states n) fresh-are ∙ sym (fresh-numbered task path.states track n fresh evaluated)
 
     pub all-are : all_at task m node ≡ all
     all-are = ap (λ l. generated_in m.nodes ++ l) children-are
@@ -204,7 +205,7 @@ module _ (task : PlanningTask) (settings : Settings) (s : Searched) (tables : No
           ∙ (λ j. length-set m.nodes node.generated.number (left node) j + count j) where
             count : length (nodes_at task settings m node) ≡ length fresh
             count =
-                length-children task settings (all_at task m node) path n (fresh_at task m node)
+                length-children (path_counters task) settings (all_at task m node) path n (fresh_at task m node)
                 ∙ (ap length fresh-are ∙ length-map fresh bare)
 
       nodes-later : map shown_kept later.nodes.kept ≡ map shown (filter (λ x. x.kept) next.nodes)
@@ -347,7 +348,7 @@ module _ (task : PlanningTask) (settings : Settings) (s : Searched) (tables : No
   all-at-are = all-are task settings s tables m node number at ev.linked k ev.there ev.named ev.law brood fresh ev.brood_is ev.fresh_is
 
   pub words-end : exceeds settings.words (length tables.tables + length pairs) (tuple_count settings.width task.atoms) ≡ true →
-      expand task settings m node ≡ Ends (Words (length tables.tables + length pairs))
+      expand task settings (all_tuples task settings) m node ≡ Ends (Words (length tables.tables + length pairs))
   words-end many =
       expand-ends task settings m node (ap (λ i. exceeds settings.words i (tuple_count settings.width task.atoms)) (sym needed-length) ∙ many)
       ∙ ap (λ (i : ℕ). Ends (Words i)) (sym needed-length)
@@ -384,39 +385,36 @@ module _ (task : PlanningTask) (settings : Settings) (s : Searched) (tables : No
       (subst (λ i. IfSome (last_number (map birth_of (generated_in m.nodes))) (λ l. l < i)) (sym at.holds.counts.numbered)
       (last-below m.nodes at.holds.numbers.numbers))
 
-  newborns-here : (width : ℕ) (newborns : List Newborn) → width ≡ settings.width →
+  pub newborns-here : (width : ℕ) (newborns : List Newborn) → width ≡ settings.width →
       newborns ≡ newborns_of width (generated_in m.nodes ++ all_numbered s.numbered fresh) s.numbered fresh →
       newborns ≡ newborns_of settings.width (generated_in m.nodes ++ all_numbered (length m.nodes) fresh) (length m.nodes) fresh
   newborns-here width newborns width_is is =
       is ∙ (λ j. newborns_of (width_is j) (generated_in m.nodes ++ all_numbered (at.holds.counts.numbered j) fresh) (at.holds.counts.numbered j) fresh)
 
-  pub newborns-fit : (index : Indexed) (newborns : List Newborn) → index ≡ tables.index →
-      newborns ≡ newborns_of index.width (generated_in m.nodes ++ all_numbered s.numbered fresh) s.numbered fresh → AreNew s.nodes.kept newborns
-  newborns-fit index newborns same is =
+  pub newborns-fit : (newborns : List Newborn) →
+      newborns ≡ newborns_of settings.width (generated_in m.nodes ++ all_numbered (length m.nodes) fresh) (length m.nodes) fresh → AreNew s.nodes.kept newborns
+  newborns-fit newborns is =
       let seen = map (λ (x : Kept). x.state) s.nodes.kept in
-      subst (AreNew s.nodes.kept) (sym (newborns-here index.width newborns (ap (λ (i : Indexed). i.width) (same ∙ at.holds.words.index)) is))
+      subst (AreNew s.nodes.kept) (sym is)
       (newborns-new settings.width (generated_in m.nodes ++ all_numbered (length m.nodes) fresh) (length m.nodes) fresh s.nodes.kept
       (number-within task settings s tables m node number at ev.linked k ev.there ev.named)
       (subst (λ l. AreApart (map (λ (c : Child). c.state) l)) (sym ev.fresh_is) (unseen-apart (λ (c : Child). c.state) seen brood))
       (λ state there old. unseen-new (λ (c : Child). c.state) seen brood state (subst (λ l. In state (map (λ (c : Child). c.state) l)) ev.fresh_is there) old))
 
-  pub goes : (words : NoveltyTables) (newborns : List Newborn) (repeats : ℕ) (later : Searched) → (index : Indexed) → index ≡ tables.index →
+  pub goes : (words : NoveltyTables) (newborns : List Newborn) (repeats : ℕ) (later : Searched) →
       exceeds settings.words (length tables.tables + length pairs) (tuple_count settings.width task.atoms) ≡ false →
-      newborns ≡ newborns_of index.width (generated_in m.nodes ++ all_numbered s.numbered fresh) s.numbered fresh →
+      newborns ≡ newborns_of settings.width (generated_in m.nodes ++ all_numbered (length m.nodes) fresh) (length m.nodes) fresh →
       repeats ≡ length brood - length fresh → s.expanded < settings.budget → length brood ≤ 1048576 →
       IsCommitted settings number k.mark.track newborns repeats s later →
-      StandsFor words (map birth_of (generated_in m.nodes ++ all_numbered s.numbered fresh)) → keys_of words.tables ≡ keys_of tables.tables ++ pairs →
+      StandsFor words (map birth_of (generated_in m.nodes ++ all_numbered (length m.nodes) fresh)) → keys_of words.tables ≡ keys_of tables.tables ++ pairs →
       words.index ≡ tables.index → words.limit ≡ tables.limit →
-      (next : Moment) × StandsAt task settings later words next × (expand task settings m node ≡ Goes next)
+      (next : Moment) × StandsAt task settings later words next × (expand task settings (all_tuples task settings) m node ≡ Goes next)
       × (next.events ≡ m.events ++ event_as settings k repeats newborns ∷ [])
-  goes words newborns repeats later index same few newborns_is repeats_is spare small committed births keys words_index limit =
+  goes words newborns repeats later few newborns_are repeats_is spare small committed births keys words_index limit =
       let n = length m.nodes in
       let all = generated_in m.nodes ++ all_numbered n fresh in
-      let newborns_are = newborns-here index.width newborns (ap (λ (i : Indexed). i.width) (same ∙ at.holds.words.index)) newborns_is in
-      let births_are : StandsFor words (map birth_of all) =
-      subst (λ i. StandsFor words (map birth_of (generated_in m.nodes ++ all_numbered i fresh))) at.holds.counts.numbered births in
       let holds = holds-next task settings s tables m node number at ev.linked k ev.there ev.named ev.law brood fresh ev.brood_is ev.fresh_is
-      pairs words newborns repeats later ev.pairs_is newborns_are repeats_is spare small ev.tracked committed births_are keys words_index limit in
+      pairs words newborns repeats later ev.pairs_is newborns_are repeats_is spare small ev.tracked committed births keys words_index limit in
       let earlier = without m.nodes node in
       let queued : AreQueued s.queue (waiting_of settings (newborns_of settings.width all n fresh)) later.queue =
       subst (λ l. AreQueued s.queue (waiting_of settings l) later.queue) newborns_are committed.queue in
@@ -431,3 +429,18 @@ module _ (task : PlanningTask) (settings : Settings) (s : Searched) (tables : No
         ap (λ e. m.events ++ e ∷ []) (sym (event-is task settings s tables m node number at ev.linked k ev.there ev.named ev.law brood fresh ev.brood_is ev.fresh_is
             newborns repeats newborns_are repeats_is)),
       )
+
+-- an expansion that was evaluated is such a one
+pub in_hand : (task : PlanningTask) (s : Searched) (tables : NoveltyTables) (number : ℕ) (x : Expansion) → ChildrenAreEvaluated →
+    (e : IsExpansionOf task s tables number x) →
+    IsEvaluatedAt task s tables number e.node (brood_of task s.nodes e.node) x.fresh.items x.pairs.items
+in_hand task s tables number x law e = record {
+  law = law;
+  linked = e.linked;
+  there = e.there;
+  named = e.named;
+  tracked = e.tracked;
+  brood_is = refl;
+  fresh_is = e.unseen_are;
+  pairs_is = e.pairs_are;
+}

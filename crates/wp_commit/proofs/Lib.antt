@@ -1,8 +1,8 @@
 pub mod BirthLemmas
 pub mod ConditionLemmas
 pub mod EndLemmas
+pub mod EvaluationLemmas
 pub mod ExpansionLemmas
-pub mod FreshLemmas
 pub mod KeepLemmas
 pub mod NewbornLemmas
 pub mod PairLemmas
@@ -10,4 +10,5 @@ pub mod RootLemmas
 pub mod StepLemmas
 pub mod TakeLemmas
 pub mod TellingLemmas
+pub mod UnseenLemmas
 pub mod WaitingLemmas

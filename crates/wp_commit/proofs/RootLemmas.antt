@@ -20,7 +20,7 @@ use Rattle.wp_nodes.specs.KeptNodes.{Keeping}
 use Rattle.wp_plain.specs.declared.settings.Settings.{Settings}
 use Rattle.wp_plain.specs.Nodes.{Node}
 use Rattle.wp_plain.specs.Pairs.{exceeds}
-use Rattle.wp_plain.specs.Expansion.{generated_at, root_of}
+use Rattle.wp_plain.specs.Expansion.{path_counters, generated_at, root_of}
 use Rattle.wp_plain.specs.Explored.{track_at}
 use Rattle.wp_plain.specs.Run.{opening}
 use Rattle.wp_commit.specs.Newborns.{birth_of, counters_of}
@@ -73,11 +73,11 @@ pub record IsRootAlone (task : PlanningTask) (settings : Settings) (tables : Nov
 
 module _ (task : PlanningTask) (settings : Settings) (counts : MarksCount) (tables : NoveltyTables) (nodes : Keeping) (queue : List Waiting)
     (state : List Bool) (mark : Mark) (track : List ℕ) (w : ℕ) (alone : IsRootAlone task settings tables nodes queue state mark track w) where
-  generated_is : generated_of (root_birth state mark) ≡ generated_at task [] 0 task.init
+  generated_is : generated_of (root_birth state mark) ≡ generated_at (path_counters task) [] 0 task.init
   generated_is =
       let counters : HasCounters task state [] mark.g mark.r = counts task state [] mark track alone.marked in
       (λ j. (let x : Generated = record { number = 0; counters = (counters.unmet j, counters.relaxed j); state = state } in x))
-      ∙ ap (generated_at task [] 0) alone.state_is
+      ∙ ap (generated_at (path_counters task) [] 0) alone.state_is
 
   node_is : ◌≡◌ {A = Node} (record { generated = generated_of (root_birth state mark); w = w; kept = true; waits = true }) (root_of task settings)
   node_is =

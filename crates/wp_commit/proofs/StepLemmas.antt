@@ -4,7 +4,6 @@ use Rattle.std.specs.Prelude.{Contains}
 use Rattle.std.proofs.lemmas.List.Elements.{All-contains_itself, All-weaker}
 use Rattle.wp_task.specs.Task.{PlanningTask}
 use Rattle.wp_watch.specs.Places.{Place}
-use Rattle.wp_novel.specs.NoveltyTables.{NoveltyTables}
 use Rattle.wp_nodes.specs.declared.kept.Kept.{Kept}
 use Rattle.wp_nodes.specs.KeptNodes.{Keeping}
 use Rattle.wp_nodes.specs.Links.{along, FollowLinks}
@@ -12,27 +11,26 @@ use Rattle.wp_plain.specs.declared.settings.Settings.{Settings}
 use Rattle.wp_plain.specs.declared.ending.How.{How}
 use Rattle.wp_plain.specs.declared.ending.How.TheVariants.{Found, Budget}
 use Rattle.wp_plain.specs.Nodes.{Node, path_at}
+use Rattle.wp_plain.specs.Pairs.{all_tuples}
 use Rattle.wp_plain.specs.Run.{Moment, Outcome, expand, look_at}
 use Rattle.wp_plain.specs.Run.Outcome.{Ends}
-use Rattle.wp_commit.specs.declared.searched.Searched.{Searched}
-use Rattle.wp_commit.specs.Searched.{plans_in, AreKept, Steps}
+use Rattle.wp_commit.specs.Searched.{plans_in, AreKept, Progress, Steps}
 
 -- outcomes that are the same
-pub Steps-same : (task : PlanningTask) (settings : Settings) (outcome other : Outcome) (m : Moment) (places : List Place)
-    (later : Searched) (words : NoveltyTables) (told : List Place) (how : Option How) →
-    outcome ≡ other → Steps task settings other m places later words told how → Steps task settings outcome m places later words told how
-Steps-same task settings outcome other m places later words told None same went = (went.0, went.1, same ∙ went.2, went.3)
-Steps-same task settings outcome other m places later words told (Some end) same went = (went.0, same ∙ went.1, went.2)
+pub Steps-same : (task : PlanningTask) (settings : Settings) (outcome other : Outcome) (m : Moment) (places : List Place) (later : Progress) (how : Option How) →
+    outcome ≡ other → Steps task settings other m places later how → Steps task settings outcome m places later how
+Steps-same task settings outcome other m places later None same went = (went.0, went.1, same ∙ went.2, went.3)
+Steps-same task settings outcome other m places later (Some end) same went = (went.0, same ∙ went.1, went.2)
 
 -- where the budget is spent
 pub look_at-spent : (task : PlanningTask) (settings : Settings) (m : Moment) (node : Node) → (node.generated.counters.0 == 0) ≡ false →
-    (length m.events == settings.budget) ≡ true → look_at task settings m (Some node) ≡ Ends Budget
+    (length m.events == settings.budget) ≡ true → look_at task settings (all_tuples task settings) m (Some node) ≡ Ends Budget
 look_at-spent task settings m node unmet spent =
     ap (λ b. elim b as (λ _. Outcome) [
       | true ↦ Ends (Found (path_at m.paths node.generated.number).acts)
-      | false ↦ elim (length m.events == settings.budget) as (λ _. Outcome) [ true ↦ Ends Budget | false ↦ expand task settings m node ]
+      | false ↦ elim (length m.events == settings.budget) as (λ _. Outcome) [ true ↦ Ends Budget | false ↦ expand task settings (all_tuples task settings) m node ]
     ]) unmet
-    ∙ ap (λ b. elim b as (λ _. Outcome) [ true ↦ Ends Budget | false ↦ expand task settings m node ]) spent
+    ∙ ap (λ b. elim b as (λ _. Outcome) [ true ↦ Ends Budget | false ↦ expand task settings (all_tuples task settings) m node ]) spent
 
 -- the plans of a moment follow the links of the kept nodes
 pub plans-follow : (task : PlanningTask) (nodes : Keeping) (m : Moment) → AreKept task nodes m → FollowLinks nodes.kept (plans_in m.paths)

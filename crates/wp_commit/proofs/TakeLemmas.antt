@@ -11,11 +11,10 @@ use Rattle.wp_queue.specs.declared.queue.Waiting.{Waiting}
 use Rattle.wp_queue.specs.OpenList.{waiting, IsBefore, IsTaken}
 use Rattle.wp_nodes.specs.declared.kept.Kept.{Kept}
 use Rattle.wp_plain.specs.declared.settings.Settings.{Settings}
-use Rattle.wp_plain.specs.Nodes.{Node, comes_before, first_waiting, IsFirst}
+use Rattle.wp_plain.specs.Nodes.{Node, comes_before, first_waiting, IsFirst, left}
 use Rattle.wp_plain.specs.Run.{Moment}
 use Rattle.wp_plain.specs.Numbers.{CountUp}
 use Rattle.wp_plain.proofs.FirstLemmas.{first_is_least}
-use Rattle.wp_plain.proofs.NextNodes.{left}
 use Rattle.wp_plain.proofs.NumberLemmas.{number_below, one_node, node_there, CountUp-set, In-set_cases}
 use Rattle.wp_commit.specs.declared.searched.Searched.{Searched}
 use Rattle.wp_commit.specs.Searched.{shown_kept, shown, IsWaiting, AreWaiting, HoldsAt, StandsAt, IsTakenAt, without}

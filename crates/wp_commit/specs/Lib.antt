@@ -1,2 +1,4 @@
+pub mod Asked
+pub mod Expansions
 pub mod Newborns
 pub mod Searched

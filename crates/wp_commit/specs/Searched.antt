@@ -24,7 +24,7 @@ use Rattle.wp_plain.specs.declared.settings.Settings.{Settings}
 use Rattle.wp_plain.specs.declared.ending.Counts.{Counts}
 use Rattle.wp_plain.specs.declared.ending.How.{How}
 use Rattle.wp_plain.specs.Nodes.{Node, Path, path_at, generated_in}
-use Rattle.wp_plain.specs.Pairs.{pairs_in, tuple_count, exceeds}
+use Rattle.wp_plain.specs.Pairs.{all_tuples, pairs_in, tuple_count, exceeds}
 use Rattle.wp_plain.specs.Run.{Moment, Outcome, counts_of, run_from, run}
 use Rattle.wp_plain.specs.Run.Outcome.{Goes, Ends}
 use Rattle.wp_plain.specs.Explored.{track_at}
@@ -127,47 +127,54 @@ AreAfterFor events places = (list : List (WatchKind × Option ℕ)) × AreAfter 
 abbrev pub AreTold : List Event → List Event → List Place → List Place → Type 0
 AreTold events more places later = (list : List (WatchKind × Option ℕ)) → AreAfter list events places → AreAfter list more later
 
+-- ---- how far a search is
+-- what it keeps, its tables, and where its watchers stand
+pub record Progress : Type 0 where
+  pub searched : Searched
+  pub tables : NoveltyTables
+  pub places : List Place
+
+abbrev pub progress : Searched → NoveltyTables → List Place → Progress
+progress s tables places = record { searched = s; tables = tables; places = places }
+
 -- ---- what a step may ask
 abbrev pub HoldsAtSome : PlanningTask → Settings → Searched → NoveltyTables → Type 0
 HoldsAtSome task settings s tables = (m : Moment) × HoldsAt task settings s tables m
 
 -- the watchers were told the events of a moment that the search stands for
-abbrev pub StandsAtSome : PlanningTask → Settings → Searched → NoveltyTables → List Place → Type 0
-StandsAtSome task settings s tables places = (m : Moment) × StandsAt task settings s tables m × AreAfterFor m.events places
+abbrev pub StandsAtSome : PlanningTask → Settings → Progress → Type 0
+StandsAtSome task settings p = (m : Moment) × StandsAt task settings p.searched p.tables m × AreAfterFor m.events p.places
 
 abbrev pub IsTakenAtSome : PlanningTask → Settings → Searched → NoveltyTables → ℕ → Type 0
 IsTakenAtSome task settings s tables number = (m : Moment) × (node : Node) × IsTakenAt task settings s tables m node number
 
 -- the same, and the watchers were told the events of that moment
-abbrev pub IsTakenAndTold : PlanningTask → Settings → Searched → NoveltyTables → ℕ → List Place → Type 0
-IsTakenAndTold task settings s tables number places =
-    (m : Moment) × (node : Node) × IsTakenAt task settings s tables m node number × AreAfterFor m.events places
+abbrev pub IsTakenAndTold : PlanningTask → Settings → Progress → ℕ → Type 0
+IsTakenAndTold task settings p number =
+    (m : Moment) × (node : Node) × IsTakenAt task settings p.searched p.tables m node number × AreAfterFor m.events p.places
 
 -- ---- steps
 -- a step from a moment: it goes on to a moment that the search then stands for, and is told; or it ends and the moment stays
-abbrev pub Steps : PlanningTask → Settings → Outcome → Moment → List Place → Searched → NoveltyTables → List Place → Option How → Type 0
-Steps task settings outcome m places s tables told how = MatchOption how
-    ((next : Moment) × StandsAt task settings s tables next × (outcome ≡ Goes next) × AreTold m.events next.events places told)
-    (λ end. HoldsAt task settings s tables m × (outcome ≡ Ends end) × (told ≡ places))
+abbrev pub Steps : PlanningTask → Settings → Outcome → Moment → List Place → Progress → Option How → Type 0
+Steps task settings outcome m places later how = MatchOption how
+    ((next : Moment) × StandsAt task settings later.searched later.tables next × (outcome ≡ Goes next) × AreTold m.events next.events places later.places)
+    (λ end. HoldsAt task settings later.searched later.tables m × (outcome ≡ Ends end) × (later.places ≡ places))
 
--- the same, from each moment that the search stands for; `places` are those before, and `told` those now
-abbrev pub StepsFrom : PlanningTask → Settings → (Moment → Outcome) → Searched → NoveltyTables → List Place
-    → Searched → NoveltyTables → List Place → Option How → Type 0
-StepsFrom task settings outcome s tables places later words told how = (m : Moment) →
-    StandsAt task settings s tables m → Steps task settings (outcome m) m places later words told how
+-- the same, from each moment that the search stands for
+abbrev pub StepsFrom : PlanningTask → Settings → (Moment → Outcome) → Progress → Progress → Option How → Type 0
+StepsFrom task settings outcome before later how = (m : Moment) →
+    StandsAt task settings before.searched before.tables m → Steps task settings (outcome m) m before.places later how
 
 -- the same, where a node was taken
-abbrev pub StepsAt : PlanningTask → Settings → (Moment → Node → Outcome) → ℕ → Searched → NoveltyTables → List Place
-    → Searched → NoveltyTables → List Place → Option How → Type 0
-StepsAt task settings outcome number s tables places later words told how = (m : Moment) (node : Node) →
-    IsTakenAt task settings s tables m node number → Steps task settings (outcome m node) m places later words told how
+abbrev pub StepsAt : PlanningTask → Settings → (Moment → Node → Outcome) → ℕ → Progress → Progress → Option How → Type 0
+StepsAt task settings outcome number before later how = (m : Moment) (node : Node) →
+    IsTakenAt task settings before.searched before.tables m node number → Steps task settings (outcome m node) m before.places later how
 
 -- all the steps from each moment that the search stands for
-abbrev pub RunsFrom : PlanningTask → Settings → Searched → NoveltyTables → List Place
-    → Searched → NoveltyTables → List Place → How → Type 0
-RunsFrom task settings s tables places later words told how = (m : Moment) → StandsAt task settings s tables m →
-    (end : Moment) × HoldsAt task settings later words end × (run_from task settings (settings.budget + 1) m ≡ (how, end))
-    × AreTold m.events end.events places told
+abbrev pub RunsFrom : PlanningTask → Settings → Progress → Progress → How → Type 0
+RunsFrom task settings before later how = (m : Moment) → StandsAt task settings before.searched before.tables m →
+    (end : Moment) × HoldsAt task settings later.searched later.tables end × (run_from task settings (all_tuples task settings) (settings.budget + 1) m ≡ (how, end))
+    × AreTold m.events end.events before.places later.places
 
 -- the counts are those of each moment that the search stands for
 abbrev pub AreCountsOf : PlanningTask → Settings → Searched → NoveltyTables → Counts → Type 0
@@ -178,4 +185,4 @@ AreCountsOf task settings s tables counts = (m : Moment) → HoldsAt task settin
 abbrev pub LeavesTables : PlanningTask → Settings → NoveltyTables → Type 0
 LeavesTables task settings tables = MatchBool (exceeds settings.words 1 (tuple_count settings.width task.atoms))
     (tables.tables ≡ [])
-    (AreTables task settings tables (run task settings).1.nodes)
+    (AreTables task settings tables (run task settings (all_tuples task settings)).1.nodes)

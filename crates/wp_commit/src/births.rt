@@ -1,21 +1,61 @@
 //! The numbers and novelties of the children of an expansion.
-ghost use Rattle.std.specs.Prelude.{◌≡◌, ◌+◌, ◌<◌, ◌^◌, ◌++◌, List, length, map, All, Contains, IfOk, OnOk, IfSome};
+ghost use Rattle.std.specs.Prelude.{◌≡◌, ◌+◌, ◌<◌, ◌^◌, ◌++◌, List, false, length, map, All, Contains, IfOk, OnOk, IfSome};
 ghost use Rattle.std.specs.Map.{keys_of};
 ghost use Rattle.wp_task.specs.Novelty.{Generated, novelty_of};
 ghost use Rattle.wp_novel.specs.declared.birth.Birth.{Birth};
 ghost use Rattle.wp_novel.specs.NoveltyTables.{IsOpen};
 ghost use Rattle.wp_novel.specs.StandsFor.{generated_of, StandsFor};
 ghost use Rattle.wp_plain.specs.Explored.{numbered, all_numbered};
+ghost use Rattle.wp_plain.specs.Pairs.{exceeds, tuple_count};
 ghost use Rattle.wp_commit.specs.Newborns.{birth_of, newborns_of, HasOpenPair};
+ghost use Rattle.wp_commit.specs.Expansions.{IsExpansionOf, IsEnteredOf};
+ghost use Rattle.wp_commit.specs.Searched.{IsTakenAtSome};
 
+use crate::evaluation::Expansion;
 use crate::newborn::Newborn;
+use crate::pairs::open_all;
+use crate::run::Run;
+use crate::searched::{Searched, node_at};
 use std::alloc::{AllocError, Global};
-use wp_count::Child;
+use wp_count::{Child, counters_are_carried};
 use wp_novel::{Birth, Births, Pair, Tables};
+
+/// An expansion whose children are numbered: they stand here with their novelties.
+#[derive(Drop)]
+pub(crate) struct Numbered {
+    pub newborns: Vec<Newborn>,
+    pub repeats: u64,
+}
+
+/// Opens the pairs of an expansion, which are within the limit of words, numbers its children, enters them into the tables, and
+/// reads their novelties. Where memory is refused the tables are spent.
+pub(crate) fn enter(
+    run: &Run,
+    searched: &Searched,
+    tables: &mut Tables,
+    number: u64,
+    expansion: Expansion,
+) -> Result<Numbered, AllocError>
+    requires taken { IsTakenAtSome run.now.task run.now.settings searched.now tables.old number }
+    requires evaluated { IsExpansionOf run.now.task searched.now tables.old number expansion }
+    requires spare { searched.now.expanded < run.now.settings.budget }
+    requires few { exceeds run.now.settings.words (length tables.old.tables + length expansion.pairs.items) (tuple_count run.now.settings.width run.now.task.atoms) ≡ false }
+    ensures { IfOk result (IsEnteredOf run.now.task run.now.settings searched.now tables.old number expansion tables.new) }
+{
+    counters_are_carried();
+    let Expansion {
+        fresh,
+        repeats,
+        pairs,
+    } = expansion;
+    open_all(tables, pairs)?;
+    let newborns = number_all(run.alloc, tables, searched.numbered, fresh)?;
+    Ok(Numbered { newborns, repeats })
+}
 
 /// Numbers the children from `first` on, enters them into the tables, and reads their novelties: each child is entered before
 /// the first of them is asked for, since a later one makes no tuple old for it. Where memory is refused the tables are spent.
-pub(crate) fn number_all(
+fn number_all(
     alloc: Global,
     tables: &mut Tables,
     first: u64,

@@ -3,8 +3,10 @@ ghost use Rattle.std.specs.Prelude.{◌≡◌, ◌≢◌, ◌+◌, ◌<◌, ◌^
 ghost use Rattle.std.specs.Option.{option_to_list};
 ghost use Rattle.wp_nodes.specs.KeptNodes.{IsKept};
 ghost use Rattle.wp_plain.specs.Explored.{track_number};
-ghost use Rattle.wp_commit.specs.Newborns.{with_newborns, with_newborn, waiting_of, AreNew, AreQueued};
+ghost use Rattle.wp_commit.specs.Newborns.{with_newborns, with_newborn, waiting_of, AreNew, AreQueued, IsCommitted};
+ghost use Rattle.wp_commit.specs.Expansions.{CanKeep};
 
+use crate::births::Numbered;
 use crate::newborn::Newborn;
 use crate::searched::Searched;
 use std::alloc::AllocError;
@@ -13,8 +15,26 @@ use wp_nodes::{Back, Kept, Nodes};
 use wp_plain::{Settings, keeps};
 use wp_task::{Mark, Track};
 
+/// Takes up an expansion of the node `parent`, whose track has the number `track`.
+pub(crate) fn keep_expansion(
+    searched: &mut Searched,
+    settings: &Settings,
+    parent: u64,
+    track: u64,
+    numbered: Numbered,
+) -> Result<(), AllocError>
+    requires { CanKeep searched.old parent track numbered }
+    ensures { OnOk result (IsCommitted settings.now parent track numbered.newborns.items numbered.repeats searched.old searched.new) }
+{
+    let Numbered { newborns, repeats } = numbered;
+    searched.numbered += newborns.len() as u64;
+    searched.expanded += 1;
+    searched.repeats += repeats;
+    keep_all(searched, settings, parent, track, newborns)
+}
+
 /// Keeps the newborns of the node `parent`, whose track has the number `track`, but for those that are pruned.
-pub(crate) fn keep_all(
+fn keep_all(
     searched: &mut Searched,
     settings: &Settings,
     parent: u64,

@@ -9,12 +9,14 @@
 
 pub mod best_first;
 mod births;
-mod fresh;
+mod evaluation;
 mod keep;
 mod newborn;
 mod pairs;
 mod root;
+mod run;
 mod searched;
 mod telling;
+mod unseen;
 
 pub use best_first::{search, search_in};

@@ -1,12 +1,13 @@
 //! What the search keeps besides the novelty tables.
-ghost use Rattle.wp_plain.specs.Ranges.{AreInRange};
-ghost use Rattle.wp_commit.specs.Searched.{HoldsAtSome, AreCountsOf};
+ghost use Rattle.std.specs.Prelude.{◌≡◌, ◌<◌, Some, length, Contains};
+ghost use Rattle.wp_nodes.specs.KeptNodes.{node_of, AreLinked};
+ghost use Rattle.wp_commit.specs.Searched.{HoldsAtSome, IsTakenAtSome, AreCountsOf};
 
-use wp_nodes::Nodes;
+use crate::run::Run;
+use wp_nodes::{Kept, Nodes};
 use wp_novel::Tables;
-use wp_plain::{Counts, Settings};
+use wp_plain::Counts;
 use wp_queue::Queue;
-use wp_task::Task;
 
 /// The search so far. Of a pruned node nothing is kept here: it has its number, and its tuples are marked in the tables.
 #[derive(Drop)]
@@ -19,15 +20,30 @@ pub(crate) struct Searched {
     pub repeats: u64,
 }
 
-/// What was counted.
-pub(crate) fn counts_of(
-    searched: &Searched,
+/// The node that was taken.
+pub(crate) fn node_at<'a>(
+    run: &Run,
+    searched: &'a Searched,
     tables: &Tables,
-    task: &Task,
-    settings: &Settings,
-) -> Counts
-    requires { HoldsAtSome task.now settings.now searched.now tables.now }
-    ensures { AreCountsOf task.now settings.now searched.now tables.now result }
+    number: u64,
+) -> &'a Kept
+    requires taken { IsTakenAtSome run.now.task run.now.settings searched.now tables.now number }
+    ensures node { node_of searched.now.nodes.kept number ≡ Some result.now }
+    ensures there { Contains searched.now.nodes.kept result.now }
+    ensures named { result.now.number ≡ number }
+    ensures track { result.now.mark.track < length searched.now.nodes.tracks }
+    ensures linked { AreLinked searched.now.nodes }
+{
+    match searched.nodes.get(number) {
+        Some(node) => node,
+        None => unreachable!(),
+    }
+}
+
+/// What was counted.
+pub(crate) fn counts_of(run: &Run, searched: &Searched, tables: &Tables) -> Counts
+    requires { HoldsAtSome run.now.task run.now.settings searched.now tables.now }
+    ensures { AreCountsOf run.now.task run.now.settings searched.now tables.now result }
 {
     Counts {
         expanded: searched.expanded,

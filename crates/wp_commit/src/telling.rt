@@ -4,7 +4,9 @@ ghost use Rattle.wp_watch.specs.Places.{CanTellPlace, told_place};
 ghost use Rattle.wp_plain.specs.Places.{places_in};
 ghost use Rattle.wp_commit.specs.Newborns.{born_as, event_as};
 
+use crate::births::Numbered;
 use crate::newborn::Newborn;
+use crate::run::Run;
 use std::alloc::{AllocError, Global};
 use wp_nodes::Kept;
 use wp_plain::{Settings, keeps};
@@ -13,21 +15,19 @@ use wp_watch::{Born, Borns, Event, Watchers};
 /// Tells the expansion of a node, with its newborns. Where nobody watches no event is made. After want of memory the
 /// watchers are only good for being dropped.
 pub(crate) fn tell_expansion(
-    alloc: Global,
-    settings: &Settings,
+    run: &Run,
     node: &Kept,
-    repeats: u64,
-    newborns: &[Newborn],
+    numbered: &Numbered,
     watchers: &mut Watchers,
 ) -> Result<(), AllocError>
-    requires { All (CanTellPlace (event_as settings.now node.now repeats newborns.now)) (places_in kind until told watchers.old) }
+    requires { All (CanTellPlace (event_as run.now.settings node.now numbered.now.repeats numbered.now.newborns.items)) (places_in kind until told watchers.old) }
     ensures { OnOk result (places_in kind until told watchers.new
-        ≡ map (told_place (event_as settings.now node.now repeats newborns.now)) (places_in kind until told watchers.old)) }
+        ≡ map (told_place (event_as run.now.settings node.now numbered.now.repeats numbered.now.newborns.items)) (places_in kind until told watchers.old)) }
 {
     if watchers.slots.is_empty() {
         return Ok(());
     }
-    let event = event_of(alloc, settings, node, repeats, newborns)?;
+    let event = event_of(run.alloc, &run.settings, node, numbered)?;
     watchers.tell(&event)
 }
 
@@ -35,18 +35,17 @@ fn event_of(
     alloc: Global,
     settings: &Settings,
     node: &Kept,
-    repeats: u64,
-    newborns: &[Newborn],
+    numbered: &Numbered,
 ) -> Result<Event, AllocError>
-    ensures { IfOk result (λ event. event ≡ event_as settings.now node.now repeats newborns.now) }
+    ensures { IfOk result (λ event. event ≡ event_as settings.now node.now numbered.now.repeats numbered.now.newborns.items) }
 {
-    let born = borns_of(alloc, settings, newborns)?;
+    let born = borns_of(alloc, settings, &numbered.newborns)?;
     Ok(Event {
         number: node.number,
         w: node.w,
         g: node.mark.g,
         r: node.mark.r,
-        repeats,
+        repeats: numbered.repeats,
         born: Borns::of_vec(born),
     })
 }

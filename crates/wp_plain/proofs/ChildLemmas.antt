@@ -1,9 +1,9 @@
 -- The evaluated children of a node are the definition's successors, with their counters.
-use Rattle.std.proofs.Common.{◌≡◌, ℕ, ◌+◌, ◌≤◌, nat_lt, Bool, true, false, List, [], ◌∷◌, ◌++◌, length, map, cond, refl, ap, arith}
+use Rattle.std.proofs.Common.{◌≡◌, ℕ, ◌+◌, nat_lt, Bool, true, false, List, [], ◌∷◌, ◌++◌, map, cond, refl, ap}
 use Rattle.std.specs.Bool.{beq}
 use Rattle.std.specs.Cmp.Lexicographic.{pointwise}
 use Rattle.std.specs.List.{All, list_any}
-use Rattle.std.proofs.lemmas.List.Elements.{All-head, All-tail, All-cons}
+use Rattle.std.proofs.lemmas.List.Elements.{All-head, All-tail}
 use Rattle.wp_task.specs.declared.track.Mark.{Mark}
 use Rattle.wp_task.specs.Task.{PlanningTask, act_at, applicable_in, goal_counter, result_of}
 use Rattle.wp_task.specs.Novelty.{Generated}
@@ -11,8 +11,10 @@ use Rattle.wp_count.specs.declared.brood.Child.{Child}
 use Rattle.wp_count.specs.Broods.{with_achieved, base_child, later_child, child_of, children_of}
 use Rattle.wp_count.specs.Laws.{IsEvaluated}
 use Rattle.wp_plain.specs.Nodes.{Successor}
-use Rattle.wp_plain.specs.Expansion.{successors_of, unseen, generated_at, fresh_of}
-use Rattle.wp_plain.specs.Explored.{bare, numbered, all_numbered}
+use Rattle.wp_plain.specs.Expansion.{path_counters, successors_of, unseen, generated_at, fresh_of}
+use Rattle.wp_plain.specs.Explored.{bare, numbered, all_numbered, ChildrenAreNumbered}
+use Rattle.wp_plain.proofs.NodeLemmas.{pairs_in-numbered}
+pub use Rattle.wp_plain.proofs.UnseenLemmas.{unseen-few, unseen-all}
 
 map-made : {X Y Z : Type 0} (f : X → Y) (h : Y → Z) (g : X → Z) → ((x : X) → h (f x) ≡ g x) → (xs : List X) → map h (map f xs) ≡ map g xs
 map-made f h g same [] = refl
@@ -51,36 +53,20 @@ unseen-bare seen (c ∷ cs) = by (list_any (pointwise beq c.state) seen) (unseen
   by true there new = there
   by false there new = ap (λ l. bare c ∷ l) new
 
-module _ {X : Type 0} (state : X → List Bool) where
-  pub unseen-few : (seen : List (List Bool)) (xs : List X) → length (unseen state seen xs) ≤ length xs
-  unseen-few seen [] = omega arith
-  unseen-few seen (x ∷ xs) = by (list_any (pointwise beq (state x)) seen) (unseen-few seen xs) (unseen-few (seen ++ state x ∷ []) xs) where
-    by : (b : Bool) → length (unseen state seen xs) ≤ length xs → length (unseen state (seen ++ state x ∷ []) xs) ≤ length xs →
-        length (elim b as (λ _. List X) [
-          | true ↦ unseen state seen xs
-          | false ↦ x ∷ unseen state (seen ++ state x ∷ []) xs
-        ]) ≤ length (x ∷ xs)
-    by true there new = omega arith
-    by false there new = omega arith
-
-  pub unseen-all : (P : X → Type 0) (seen : List (List Bool)) (xs : List X) → All P xs → All P (unseen state seen xs)
-  unseen-all P seen [] all = all
-  unseen-all P seen (x ∷ xs) all =
-      by (list_any (pointwise beq (state x)) seen) (unseen-all P seen xs (All-tail P x xs all)) (unseen-all P (seen ++ state x ∷ []) xs (All-tail P x xs all)) where
-        by : (b : Bool) → All P (unseen state seen xs) → All P (unseen state (seen ++ state x ∷ []) xs) →
-            All P (elim b as (λ _. List X) [
-              | true ↦ unseen state seen xs
-              | false ↦ x ∷ unseen state (seen ++ state x ∷ []) xs
-            ])
-        by true there new = there
-        by false there new = All-cons P x (unseen state (seen ++ state x ∷ []) xs) (All-head P x xs all) new
-
 -- ---- counters
 pub fresh-numbered : (task : PlanningTask) (states : List (List Bool)) (track : List ℕ) (n : ℕ) (cs : List Child) →
-    All (IsEvaluated task states track) cs → all_numbered n cs ≡ fresh_of task states n (map bare cs)
+    All (IsEvaluated task states track) cs → all_numbered n cs ≡ fresh_of (path_counters task) states n (map bare cs)
 fresh-numbered task states track n [] evaluated = refl
 fresh-numbered task states track n (c ∷ cs) evaluated =
     let counters = (All-head (IsEvaluated task states track) c cs evaluated).counters in
-    let first : numbered n c ≡ generated_at task states n c.state =
+    let first : numbered n c ≡ generated_at (path_counters task) states n c.state =
     λ j. (let g : Generated = record { number = n; counters = (counters.unmet j, counters.relaxed j); state = c.state } in g) in
     λ j. first j ∷ fresh-numbered task states track (n + 1) cs (All-tail (IsEvaluated task states track) c cs evaluated) j
+
+pub children_are_numbered : ChildrenAreNumbered
+children_are_numbered = record {
+  successors = bare-children;
+  fresh = unseen-bare;
+  numbered = fresh-numbered;
+  pairs = pairs_in-numbered;
+}

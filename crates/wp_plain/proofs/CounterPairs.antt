@@ -1,18 +1,19 @@
 -- The counter pairs of a run: each is listed once, and there are at most (goals + 1) * (atoms + 1) of them.
-use Rattle.std.proofs.Common.{◌≡◌, ◌⊎◌, ◌==◌, ◌&&◌, not, ℕ, ◌+◌, ◌*◌, ◌<◌, ◌≤◌, Bool, true, false, cond, List, [], ◌∷◌, ◌++◌, length, map, refl, sym, ◌∙◌, subst, inl, inr, arith, fold}
+use Rattle.std.proofs.Common.{◌≡◌, ◌⊎◌, ◌==◌, ◌&&◌, not, ℕ, ◌+◌, ◌*◌, ◌<◌, ◌≤◌, Bool, true, false, cond, List, [], ◌∷◌, ◌++◌, Contains, get_or, length, map, refl, sym, ◌∙◌, subst, inl, inr, arith, fold}
 use Rattle.std.proofs.Math.Nat.{mul_comm}
 use Rattle.std.proofs.lemmas.Bool.{and_parts, and_from, both_ways, eq-eqb, eqb-true}
+use Rattle.std.proofs.lemmas.List.{get_or_default}
 use Rattle.std.proofs.lemmas.List.Sums.{count_by-le-length}
 use Rattle.std.proofs.lemmas.Nat.{mul-add-lt, same_from_place}
 use Rattle.wp_task.specs.Set.{has}
 use Rattle.wp_task.specs.Task.{PlanningTask, goal_counter}
 use Rattle.wp_task.specs.Novelty.{Generated}
-use Rattle.wp_task.proofs.Members.{In, In-map, In-map_cases, In-append_left, In-append_right, In-append_cases, list_any-at, list_any-from}
+use Rattle.wp_task.proofs.Members.{In, In-from_Contains, Contains-from_In, In-map, In-map_cases, In-append_left, In-append_right, In-append_cases, list_any-at, list_any-from}
 use Rattle.wp_plain.specs.Nodes.{Node, generated_in}
-use Rattle.wp_plain.specs.Pairs.{has_pair, with_pair, pairs_in}
+use Rattle.wp_plain.specs.Pairs.{has_pair, with_pair, pairs_in, ArePairsOf, PairsAreListed}
 use Rattle.wp_plain.specs.Run.{Moment, run}
 use Rattle.wp_plain.specs.Laws.{PairsAreFew}
-use Rattle.wp_plain.proofs.Pigeons.{AreApart, AreApart-append, pigeons}
+use Rattle.wp_plain.proofs.Pigeons.{AreApart, AreApart-append, apart_pairs, pairs_apart, pigeons}
 use Rattle.wp_plain.proofs.TraceLemmas.{AreTraced, ended}
 
 there-from_has_pair : (pairs : List (ℕ × ℕ)) (p : ℕ × ℕ) → has_pair pairs p ≡ true → In p pairs
@@ -124,7 +125,44 @@ traced-few task m traced = pairs_few (length task.goals) (length task.init) (gen
     (subst (λ g. g ≤ length task.goals) (sym here.unmet) few, here.few))
 
 pub pairs_are_few : PairsAreFew
-pairs_are_few task settings fits =
-    let end = ended task settings (λ m. Unit {0}) tt (λ m node traced there holds x. tt) in
-    subst (λ n. length (pairs_in (generated_in (run task settings).1.nodes)) ≤ (length task.goals + 1) * (n + 1)) fits.init_size
-    (traced-few task (run task settings).1 end.traced)
+pairs_are_few task settings tuples fits =
+    let end = ended task settings tuples (λ m. Unit {0}) tt (λ m node traced there holds x. tt) in
+    subst (λ n. length (pairs_in (generated_in (run task settings tuples).1.nodes)) ≤ (length task.goals + 1) * (n + 1)) fits.init_size
+    (traced-few task (run task settings tuples).1 end.traced)
+
+-- ---- the pairs of some nodes, each once
+listed : (nodes : List Generated) → ArePairsOf nodes (pairs_in nodes)
+listed nodes = record {
+  has = λ pair. (λ there. from pair (fold-from [] (map (λ x. x.counters) nodes) pair (In-from_Contains pair (pairs_in nodes) there)), to pair);
+  once = apart_pairs (pairs_in nodes) (fold-apart [] (map (λ x. x.counters) nodes) tt);
+} where
+  HasNode : ℕ × ℕ → Type 0
+  HasNode pair = (x : Generated) × Contains nodes x × (x.counters ≡ pair)
+
+  from : (pair : ℕ × ℕ) → In pair [] ⊎ In pair (map (λ x. x.counters) nodes) → HasNode pair
+  from pair (inl none) = absurd none
+  from pair (inr there) =
+      let found : (x : Generated) × In x nodes × (pair ≡ x.counters) = In-map_cases (λ x. x.counters) nodes pair there in
+      (found.0, Contains-from_In found.0 nodes found.1, sym found.2)
+
+  to : (pair : ℕ × ℕ) → HasNode pair → Contains (pairs_in nodes) pair
+  to pair found =
+      Contains-from_In pair (pairs_in nodes)
+      (subst (λ p. In p (pairs_in nodes)) found.2 (pairs_have nodes found.0 (In-from_Contains found.0 nodes found.1)))
+
+no_more : (nodes : List Generated) (pairs other : List (ℕ × ℕ)) → ArePairsOf nodes pairs → ArePairsOf nodes other → length pairs ≤ length other
+no_more nodes pairs other one second =
+    pigeons (λ (p : ℕ × ℕ) (c : ℕ). get_or other c (0, 0) ≡ p) (length other) pairs
+    (λ p there. at p ((second.has p).1 ((one.has p).0 (Contains-from_In p pairs there))))
+    (λ p q c first next here also. sym here ∙ also) (pairs_apart pairs one.once) where
+      at : (p : ℕ × ℕ) → Contains other p → (c : ℕ) × (c < length other) × (get_or other c (0, 0) ≡ p)
+      at p there = (there.0, there.1, get_or_default other there.0 (0, 0) p there.1 ∙ there.2)
+
+pub pairs_are_listed : PairsAreListed
+pairs_are_listed = record {
+  listed = listed;
+  one = λ nodes pairs other one second.
+      let few : length pairs ≤ length other = no_more nodes pairs other one second in
+      let many : length other ≤ length pairs = no_more nodes other pairs second one in
+      omega arith;
+}

@@ -8,12 +8,13 @@ use Rattle.wp_task.proofs.Members.{In, In-from_Contains, Contains-from_In, In-ma
 use Rattle.wp_plain.specs.declared.settings.Search.TheVariants.{F5}
 use Rattle.wp_plain.specs.declared.settings.Settings.{Settings}
 use Rattle.wp_plain.specs.declared.ending.How.TheVariants.{Emptied}
-use Rattle.wp_plain.specs.Nodes.{Node, path_at, states_kept}
-use Rattle.wp_plain.specs.Expansion.{keeps, successors_of}
-use Rattle.wp_plain.specs.Run.{Moment, opening, run}
+use Rattle.wp_plain.specs.Nodes.{Node, path_at, states_kept, left}
+use Rattle.wp_plain.specs.Expansion.{path_counters, keeps, successors_of}
+use Rattle.wp_plain.specs.Run.{Moment, opening, run, fresh_at, all_at, nodes_at}
 use Rattle.wp_plain.specs.Laws.{IsClosed, EmptiedIsClosed, ClosedHasNoPlan, EmptiedHasNoPlan}
-use Rattle.wp_plain.proofs.StepCases.{none_waits, fresh_at, all_at, nodes_at, IsEnd}
-use Rattle.wp_plain.proofs.NextNodes.{IsNext, left, child_at, next, next_cases, states-next, successor_there, unseen_covers, child_for}
+use Rattle.wp_plain.proofs.UnseenLemmas.{unseen_covers}
+use Rattle.wp_plain.proofs.StepCases.{none_waits, IsEnd}
+use Rattle.wp_plain.proofs.NextNodes.{IsNext, child_at, next, next_cases, states-next, successor_there, child_for}
 use Rattle.wp_plain.proofs.NextNodes.IsNext.{expanded_one, older, child}
 use Rattle.wp_plain.proofs.TraceLemmas.{AreTraced, Keeps, ended}
 use Rattle.wp_plain.proofs.FoundLemmas.{none_unmet}
@@ -53,7 +54,7 @@ module _ (task : PlanningTask) (settings : Settings) (f5 : settings.search ≡ F
 
   child_kept : (y : Node) → In y (nodes_at task settings m node) → y.kept ≡ true
   child_kept y among =
-      let born = child_at task settings (all_at task m node) (path_at m.paths node.generated.number) (length m.nodes) (fresh_at task m node) y among in
+      let born = child_at (path_counters task) settings (all_at task m node) (path_at m.paths node.generated.number) (length m.nodes) (fresh_at task m node) y among in
       ap (λ n. n.kept) born.is ∙ ap (λ s. keeps s settings.width born.novelty) f5
 
   in_next : (s : List Bool) → In s (states_kept m.nodes) ⊎ In s (states_kept (nodes_at task settings m node)) → In s (states_kept after.nodes)
@@ -77,7 +78,7 @@ module _ (task : PlanningTask) (settings : Settings) (f5 : settings.search ≡ F
             In state (states_kept m.nodes) ⊎ In state (states_kept (nodes_at task settings m node))
         by (inl old) = inl old
         by (inr new) = inr (state_kept (nodes_at task settings m node) child_kept state
-            (child_for task settings (all_at task m node) (path_at m.paths node.generated.number) (length m.nodes) (fresh_at task m node) state new))
+            (child_for (path_counters task) settings (all_at task m node) (path_at m.paths node.generated.number) (length m.nodes) (fresh_at task m node) state new))
 
   open-next : IsOpen task m → (node.generated.counters.0 ≡ 0 → ⊥) → IsOpen task after
   open-next before unmet = record {
@@ -111,15 +112,15 @@ open-opening task settings = record {
   each = λ x. elim [ inl same ↦ inl (ap (λ n. n.waits) same) | inr none ↦ absurd none ];
 }
 
-pub keeps-open : (task : PlanningTask) (settings : Settings) → settings.search ≡ F5 → Keeps task settings (IsOpen task)
-keeps-open task settings f5 m node traced there before x = open-next task settings f5 m node traced there before x.unmet
+pub keeps-open : (task : PlanningTask) (settings : Settings) (tuples : ℕ) → settings.search ≡ F5 → Keeps task settings tuples (IsOpen task)
+keeps-open task settings tuples f5 m node traced there before x = open-next task settings f5 m node traced there before x.unmet
 
 -- ---- the laws
 pub emptied_is_closed : EmptiedIsClosed
-emptied_is_closed task settings f5 is =
-    let end = ended task settings (IsOpen task) (open-opening task settings) (keeps-open task settings f5) in
-    let nodes = (run task settings).1.nodes in
-    let empty : IsEnd task settings (run task settings).1 Emptied = subst (IsEnd task settings (run task settings).1) is end.reason in
+emptied_is_closed task settings tuples f5 is =
+    let end = ended task settings tuples (IsOpen task) (open-opening task settings) (keeps-open task settings tuples f5) in
+    let nodes = (run task settings tuples).1.nodes in
+    let empty : IsEnd task settings tuples (run task settings tuples).1 Emptied = subst (IsEnd task settings tuples (run task settings tuples).1) is end.reason in
     let done_at : (x : Node) → In x nodes → IsDone task nodes x = λ x among. by x (none_waits nodes empty x among) (end.holds.each x among) in
     record {
       start = Contains-from_In task.init (states_kept nodes) end.holds.start;
@@ -136,7 +137,7 @@ emptied_is_closed task settings f5 is =
           ((end.traced.each found.0 found.1).unmet
           ∙ none_unmet task.goals found.0.generated.state (ap (λ s. list_all (has s) task.goals) (sym found.2) ∙ all)));
     } where
-      by : (x : Node) → x.waits ≡ false → (x.waits ≡ true) ⊎ IsDone task (run task settings).1.nodes x → IsDone task (run task settings).1.nodes x
+      by : (x : Node) → x.waits ≡ false → (x.waits ≡ true) ⊎ IsDone task (run task settings tuples).1.nodes x → IsDone task (run task settings tuples).1.nodes x
       by x rests (inl waits) = absurd (both_ways x.waits rests waits)
       by x rests (inr is_done) = is_done
 
@@ -162,5 +163,5 @@ closed_has_no_plan task states closed plan = by (leads_to task.acts task.init pl
   by (Some last) leads = closed.unmet last (stays_within task states closed plan task.init last closed.start leads)
 
 pub emptied_has_no_plan : EmptiedHasNoPlan
-emptied_has_no_plan task settings f5 is =
-    closed_has_no_plan task (states_kept (run task settings).1.nodes) (emptied_is_closed task settings f5 is)
+emptied_has_no_plan task settings tuples f5 is =
+    closed_has_no_plan task (states_kept (run task settings tuples).1.nodes) (emptied_is_closed task settings tuples f5 is)

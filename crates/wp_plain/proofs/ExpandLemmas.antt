@@ -18,39 +18,40 @@ use Rattle.wp_plain.specs.declared.ending.How.TheVariants.{Words}
 use Rattle.wp_plain.specs.declared.explored.Link.{Link}
 use Rattle.wp_plain.specs.declared.explored.Explored.{Explored}
 use Rattle.wp_plain.specs.Nodes.{Node, Path, Successor, path_at, extended, generated_in, states_kept}
-use Rattle.wp_plain.specs.Pairs.{with_pair, pairs_in, tuple_count, exceeds}
-use Rattle.wp_plain.specs.Expansion.{successors_of, unseen, fresh_of, node_of, borns_of, event_of}
+use Rattle.wp_plain.specs.Pairs.{with_pair, pairs_in, exceeds}
+use Rattle.wp_plain.specs.Expansion.{path_counters, successors_of, unseen, fresh_of, node_of, borns_of, event_of}
 use Rattle.wp_plain.specs.Run.{Moment, Outcome, expanded, expand}
 use Rattle.wp_plain.specs.Run.Outcome.{Goes, Ends}
 use Rattle.wp_plain.specs.Explored.{no_node, node_at, way_at, track_at, path_over, states_before, lists_of, bare, all_numbered, child_pair, brood_at, without_waiting, expanded_at, event_at, moment_of, watched, Lists, AreReached, IsReached, StandsFor}
+use Rattle.wp_plain.proofs.UnseenLemmas.{unseen-all, unseen-few}
 use Rattle.wp_plain.proofs.ReachedLemmas.{reached-children}
 use Rattle.wp_plain.proofs.NodeLemmas.{nodes-children, pairs_in-numbered, generated_in-set}
-use Rattle.wp_plain.proofs.ChildLemmas.{bare-children, unseen-bare, unseen-few, unseen-all, fresh-numbered}
+use Rattle.wp_plain.proofs.ChildLemmas.{bare-children, unseen-bare, fresh-numbered}
 use Rattle.wp_plain.proofs.EventLemmas.{length-numbered, length-borns, event-expanded}
 
 -- the definition's expansion, by its parts
-abbrev expand_by : PlanningTask → Settings → Moment → Node → List Successor → List Successor → List Generated → Outcome
-expand_by task settings m node successors fresh children =
+abbrev expand_by : PlanningTask → Settings → ℕ → Moment → Node → List Successor → List Successor → List Generated → Outcome
+expand_by task settings tuples m node successors fresh children =
     let all = generated_in m.nodes ++ children in
-    elim (exceeds settings.words (length (pairs_in all)) (tuple_count settings.width task.atoms)) [
+    elim (exceeds settings.words (length (pairs_in all)) tuples) [
       | true ↦ Ends (Words (length (pairs_in all)))
       | false ↦ Goes (expanded m node (length successors - length fresh) fresh (map (node_of settings all) children))
     ]
 
-expand_by-goes : (task : PlanningTask) (settings : Settings) (m : Moment) (node : Node) (successors fresh : List Successor) (children : List Generated) →
-    exceeds settings.words (length (pairs_in (generated_in m.nodes ++ children))) (tuple_count settings.width task.atoms) ≡ false →
-    expand_by task settings m node successors fresh children ≡
+expand_by-goes : (task : PlanningTask) (settings : Settings) (tuples : ℕ) (m : Moment) (node : Node) (successors fresh : List Successor) (children : List Generated) →
+    exceeds settings.words (length (pairs_in (generated_in m.nodes ++ children))) tuples ≡ false →
+    expand_by task settings tuples m node successors fresh children ≡
     Goes (expanded m node (length successors - length fresh) fresh (map (node_of settings (generated_in m.nodes ++ children)) children))
-expand_by-goes task settings m node successors fresh children few =
+expand_by-goes task settings tuples m node successors fresh children few =
     ap (λ b. elim b as (λ _. Outcome) [
       | true ↦ Ends (Words (length (pairs_in (generated_in m.nodes ++ children))))
       | false ↦ Goes (expanded m node (length successors - length fresh) fresh (map (node_of settings (generated_in m.nodes ++ children)) children))
     ]) few
 
-expand_by-ends : (task : PlanningTask) (settings : Settings) (m : Moment) (node : Node) (successors fresh : List Successor) (children : List Generated) →
-    exceeds settings.words (length (pairs_in (generated_in m.nodes ++ children))) (tuple_count settings.width task.atoms) ≡ true →
-    expand_by task settings m node successors fresh children ≡ Ends (Words (length (pairs_in (generated_in m.nodes ++ children))))
-expand_by-ends task settings m node successors fresh children many =
+expand_by-ends : (task : PlanningTask) (settings : Settings) (tuples : ℕ) (m : Moment) (node : Node) (successors fresh : List Successor) (children : List Generated) →
+    exceeds settings.words (length (pairs_in (generated_in m.nodes ++ children))) tuples ≡ true →
+    expand_by task settings tuples m node successors fresh children ≡ Ends (Words (length (pairs_in (generated_in m.nodes ++ children))))
+expand_by-ends task settings tuples m node successors fresh children many =
     ap (λ b. elim b as (λ _. Outcome) [
       | true ↦ Ends (Words (length (pairs_in (generated_in m.nodes ++ children))))
       | false ↦ Goes (expanded m node (length successors - length fresh) fresh (map (node_of settings (generated_in m.nodes ++ children)) children))
@@ -105,7 +106,7 @@ states-over : (paths : List Path) (state : List Bool) (back : Option Link) → (
 states-over paths state None = refl
 states-over paths state (Some link) = refl
 
-module _ (task : PlanningTask) (settings : Settings) (watchers : List (WatchKind × Option ℕ)) (e : Explored) (places : List Place)
+module _ (task : PlanningTask) (settings : Settings) (tuples : ℕ) (watchers : List (WatchKind × Option ℕ)) (e : Explored) (places : List Place)
     (paths : List Path) (events : List Event) (place : ℕ) (fresh : List Child) (pairs : List (ℕ × ℕ))
     (stands : StandsFor task settings watchers (watched e places) paths events) (expansion : IsBrood task e place fresh pairs) where
   evaluated : All (IsEvaluated task (path_at paths place).states (track_at e.tracks.items (way_at e.ways.items place).mark.track)) fresh
@@ -121,8 +122,8 @@ module _ (task : PlanningTask) (settings : Settings) (watchers : List (WatchKind
       (subst (λ path. All (IsEvaluated task path track) (brood_at task (lists_of e) place)) states
       (expansion.law task node.generated.state (states_before paths way.back) way.mark track reached.marked)))
 
-  expand-is : expand task settings (moment_of e paths events) (node_at e.nodes.items place) ≡
-      expand_by task settings (moment_of e paths events) (node_at e.nodes.items place)
+  expand-is : expand task settings tuples (moment_of e paths events) (node_at e.nodes.items place) ≡
+      expand_by task settings tuples (moment_of e paths events) (node_at e.nodes.items place)
       (map bare (brood_at task (lists_of e) place)) (map bare fresh) (all_numbered (length e.nodes.items) fresh)
   expand-is =
       let way = way_at e.ways.items place in
@@ -135,23 +136,23 @@ module _ (task : PlanningTask) (settings : Settings) (watchers : List (WatchKind
       let successors : successors_of task.acts node.generated.state ≡ map bare brood = sym (bare-children task node.generated.state way.mark track) in
       let fresh_is : unseen (λ x. x.state) kept (successors_of task.acts node.generated.state) ≡ map bare fresh =
       ap (unseen (λ x. x.state) kept) successors ∙ (unseen-bare kept brood ∙ ap (map bare) (sym expansion.unseen_is)) in
-      let children : fresh_of task (path_at paths node.generated.number).states n (unseen (λ x. x.state) kept (successors_of task.acts node.generated.state)) ≡ all_numbered n fresh =
-      (λ j. fresh_of task (path_at paths (number j)).states n (fresh_is j))
+      let children : fresh_of (path_counters task) (path_at paths node.generated.number).states n (unseen (λ x. x.state) kept (successors_of task.acts node.generated.state)) ≡ all_numbered n fresh =
+      (λ j. fresh_of (path_counters task) (path_at paths (number j)).states n (fresh_is j))
       ∙ sym (fresh-numbered task (path_at paths place).states track n fresh evaluated) in
-      λ j. expand_by task settings (moment_of e paths events) node (successors j) (fresh_is j) (children j)
+      λ j. expand_by task settings tuples (moment_of e paths events) node (successors j) (fresh_is j) (children j)
 
   pairs-are : pairs_in (generated_in e.nodes.items ++ all_numbered (length e.nodes.items) fresh) ≡ pairs
   pairs-are =
       sym (pairs_in-numbered (generated_in e.nodes.items) (length e.nodes.items) fresh)
       ∙ (ap (λ ps. fold with_pair ps (map child_pair fresh)) (sym stands.pairs) ∙ sym expansion.pairs_is)
 
-  pub expand-words : exceeds settings.words (length pairs) (tuple_count settings.width task.atoms) ≡ true →
-      expand task settings (moment_of e paths events) (node_at e.nodes.items place) ≡ Ends (Words (length pairs))
+  pub expand-words : exceeds settings.words (length pairs) tuples ≡ true →
+      expand task settings tuples (moment_of e paths events) (node_at e.nodes.items place) ≡ Ends (Words (length pairs))
   expand-words many =
       expand-is
-      ∙ (expand_by-ends task settings (moment_of e paths events) (node_at e.nodes.items place) (map bare (brood_at task (lists_of e) place)) (map bare fresh)
+      ∙ (expand_by-ends task settings tuples (moment_of e paths events) (node_at e.nodes.items place) (map bare (brood_at task (lists_of e) place)) (map bare fresh)
       (all_numbered (length e.nodes.items) fresh)
-      (ap (λ ps. exceeds settings.words (length ps) (tuple_count settings.width task.atoms)) pairs-are ∙ many)
+      (ap (λ ps. exceeds settings.words (length ps) tuples) pairs-are ∙ many)
       ∙ ap (λ ps. Ends (Words (length ps))) pairs-are)
 
   -- the children are no more than the brood
@@ -253,9 +254,9 @@ module _ (task : PlanningTask) (settings : Settings) (watchers : List (WatchKind
           few_born = omega (arith, sum, born_is, few-fresh, committed.small, committed.expansions, stands.few_born);
         }
 
-    pub expand-goes : exceeds settings.words (length pairs) (tuple_count settings.width task.atoms) ≡ false →
+    pub expand-goes : exceeds settings.words (length pairs) tuples ≡ false →
         (last : List Path) × (told : List Event) × StandsFor task settings watchers (watched later now) last told
-        × (expand task settings (moment_of e paths events) (node_at e.nodes.items place) ≡ Goes (moment_of later last told))
+        × (expand task settings tuples (moment_of e paths events) (node_at e.nodes.items place) ≡ Goes (moment_of later last told))
     expand-goes few =
         let nodes = e.nodes.items in
         let node = node_at nodes place in
@@ -264,10 +265,10 @@ module _ (task : PlanningTask) (settings : Settings) (watchers : List (WatchKind
         let children = map (node_of settings (generated_in nodes ++ nums)) nums in
         let last = paths ++ map (extended (path_at paths node.generated.number)) (map bare fresh) in
         let event : Event = event_of node (length brood - length (map bare fresh)) (borns_of (map bare fresh) children) in
-        let goes : expand task settings (moment_of e paths events) node ≡ Goes (moment_of later last (events ++ event ∷ [])) =
+        let goes : expand task settings tuples (moment_of e paths events) node ≡ Goes (moment_of later last (events ++ event ∷ [])) =
         expand-is
-        ∙ (expand_by-goes task settings (moment_of e paths events) node brood (map bare fresh) nums
-        (ap (λ ps. exceeds settings.words (length ps) (tuple_count settings.width task.atoms)) pairs-are ∙ few)
+        ∙ (expand_by-goes task settings tuples (moment_of e paths events) node brood (map bare fresh) nums
+        (ap (λ ps. exceeds settings.words (length ps) tuples) pairs-are ∙ few)
         ∙ λ j. Goes (let m : Moment = record { nodes = sym nodes-later j; paths = last; events = events ++ event ∷ [] } in m)) in
         let counted : length brood - length (map bare fresh) ≡ repeats =
         (λ j. length-map (brood_at task (lists_of e) place) bare j - length-map fresh bare j) ∙ sym committed.counted in

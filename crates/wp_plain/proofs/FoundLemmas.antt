@@ -31,10 +31,10 @@ none_unmet (p ∷ goals) state all =
       by false is rest = absurd (cc)
 
 pub found_is_plan : FoundIsPlan
-found_is_plan task settings plan is =
-    let end = ended task settings (λ m. Unit {0}) tt (λ m node traced there holds x. tt) in
-    let reason : IsEnd task settings (run task settings).1 (Found plan) = subst (IsEnd task settings (run task settings).1) is end.reason in
-    let m = (run task settings).1 in
+found_is_plan task settings tuples plan is =
+    let end = ended task settings tuples (λ m. Unit {0}) tt (λ m node traced there holds x. tt) in
+    let reason : IsEnd task settings tuples (run task settings tuples).1 (Found plan) = subst (IsEnd task settings tuples (run task settings tuples).1) is end.reason in
+    let m = (run task settings tuples).1 in
     let node = reason.0 in
     let there : In node m.nodes = first_there m.nodes node reason.1 in
     let traced = end.traced.each node there in

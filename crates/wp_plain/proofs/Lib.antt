@@ -9,8 +9,10 @@ pub mod CounterPairs
 pub mod NewTuples
 pub mod SparseLemmas
 pub mod LimitLemmas
+pub mod SmallLemmas
 pub mod AnswerLemmas
 pub mod ListLemmas
+pub mod UnseenLemmas
 pub mod TupleLemmas
 pub mod ReachedLemmas
 pub mod NodeLemmas

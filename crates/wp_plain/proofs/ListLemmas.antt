@@ -1,13 +1,10 @@
 -- Tests of the items of a list.
-use Rattle.std.proofs.Common.{◌≡◌, cond, ◌&&◌, ◌||◌, not, Bool, true, false, List, [], ◌∷◌, ◌++◌, map, refl, sym, ap, ◌∙◌, append_assoc}
-use Rattle.std.proofs.lemmas.List.{map_push}
-use Rattle.std.specs.Bool.{beq}
-use Rattle.std.specs.Cmp.Lexicographic.{pointwise}
+use Rattle.std.proofs.Common.{◌≡◌, cond, ◌&&◌, ◌||◌, not, Bool, true, false, List, [], ◌∷◌, ◌++◌, map, refl, ap, ◌∙◌}
 use Rattle.std.specs.List.{filter, list_all, list_any}
 use Rattle.std.proofs.lemmas.List.Folds.{list_any-append}
 use Rattle.wp_count.specs.declared.brood.Child.{Child}
 use Rattle.wp_plain.specs.Nodes.{Node, states_kept}
-use Rattle.wp_plain.specs.Expansion.{unseen}
+pub use Rattle.wp_plain.proofs.UnseenLemmas.{unseen-next}
 
 pub list_any-map : {X Y : Type 0} (p : Y → Bool) (f : X → Y) (xs : List X) → list_any p (map f xs) ≡ list_any (λ x. p (f x)) xs
 list_any-map p f [] = refl
@@ -35,25 +32,6 @@ list_all-not {X = X} a e (x ∷ xs) = by (e x) (list_all-not a e xs) where
       list_all (λ y. not (a y)) (cond b (x ∷ filter e xs) (filter e xs)) ≡ not ((b && a x) || list_any (λ y. e y && a y) xs)
   by true rest = ap (λ b. not (a x) && b) rest ∙ not-or (a x) (list_any (λ y. e y && a y) xs)
   by false rest = rest
-
--- what is unseen, one item on
-pub unseen-next : {X : Type 0} (state : X → List Bool) (kept : List (List Bool)) (fresh now : List X) (x : X) (xs : List X) →
-    now ≡ cond (list_any (pointwise beq (state x)) (kept ++ map state fresh)) fresh (fresh ++ x ∷ []) →
-    now ++ unseen state (kept ++ map state now) xs ≡ fresh ++ unseen state (kept ++ map state fresh) (x ∷ xs)
-unseen-next {X = X} state kept fresh now x xs is =
-    by (list_any (pointwise beq (state x)) (kept ++ map state fresh)) is where
-      by : (b : Bool) → now ≡ cond b fresh (fresh ++ x ∷ []) →
-          now ++ unseen state (kept ++ map state now) xs ≡
-          fresh ++ elim b as (λ _. List X) [
-            | true ↦ unseen state (kept ++ map state fresh) xs
-            | false ↦ x ∷ unseen state ((kept ++ map state fresh) ++ state x ∷ []) xs
-          ]
-      by true same = ap (λ l. l ++ unseen state (kept ++ map state l) xs) same
-      by false more =
-          ap (λ l. l ++ unseen state (kept ++ map state l) xs) more
-          ∙ (append_assoc fresh (x ∷ []) (unseen state (kept ++ map state (fresh ++ x ∷ [])) xs)
-          ∙ ap (λ seen. fresh ++ x ∷ unseen state seen xs)
-          (ap (λ l. kept ++ l) (map_push state fresh x) ∙ sym (append_assoc kept (map state fresh) (state x ∷ []))))
 
 -- a test of the states that were seen: of kept nodes and of children
 pub list_any-seen : (p : List Bool → Bool) (nodes : List Node) (children : List Child) →

@@ -1,17 +1,22 @@
 -- A node of a novelty that is at most the width is the first with its counters at which some tuple is true.
-use Rattle.std.proofs.Common.{◌≡◌, ◌⊎◌, ◌==◌, ◌&&◌, not, ℕ, zero, suc, ◌+◌, ◌<◌, ◌≤◌, Bool, true, false, cond, List, [], ◌∷◌, ◌++◌, length, map, get_or, nat_lt, sym, ap, ◌∙◌, subst, inl, inr, arith, All, filter}
+use Rattle.std.proofs.Common.{◌≡◌, ◌⊎◌, ◌==◌, ◌&&◌, not, ℕ, zero, suc, ◌+◌, ◌<◌, ◌≤◌, Bool, true, false, cond, List, [], ◌∷◌, ◌++◌, length, map, get_or, nat_lt, refl, sym, ap, ◌∙◌, subst, inl, inr, ⊎_elim, arith, All, Contains, filter}
 use Rattle.std.specs.List.{flat_map, list_all, position_or_len, range_with_len}
-use Rattle.std.proofs.lemmas.Bool.{and_from, both_ways, eq-eqb, lt-ltb, not-true}
+use Rattle.std.proofs.lemmas.Bool.{and_from, both_ways, cases_lt, eq-eqb, lt-ltb, not-true}
 use Rattle.std.proofs.lemmas.List.{get_or_default}
 use Rattle.std.proofs.lemmas.List.Elements.{All-contains}
 use Rattle.std.proofs.lemmas.List.FromFn.{get_or-range_with_len, length-range_with_len}
-use Rattle.std.proofs.lemmas.List.Sums.{passes_at_first}
+use Rattle.std.proofs.lemmas.List.Sums.{passes_at_first, fails_before_first}
+use Rattle.std.proofs.lemmas.Slice.Eq.{slice_eq-Decides}
+use Rattle.std.specs.Cmp.{unsigned_Decides}
+use Rattle.std.specs.Cmp.Lexicographic.{pointwise}
+use Rattle.std.specs.Prelude.{nat_eq}
 use Rattle.wp_task.specs.Set.{has, IsIn, atoms_in}
-use Rattle.wp_task.specs.Task.{PlanningTask}
 use Rattle.wp_task.specs.Novelty.{Generated, IsNewAt, sets_of, is_earlier, is_new, has_new, novelty_of, tuples_in}
 use Rattle.wp_task.proofs.Members.{In, In-at, In-from_Contains, Contains-from_In, list_all-at, list_all-from, list_any-at, In-filter, In-filter_cases, In-map, In-map_cases, In-append_left, In-append_right, In-append_cases}
 use Rattle.wp_plain.specs.Nodes.{Successor}
+use Rattle.wp_plain.specs.Pairs.{place_in}
 use Rattle.wp_plain.specs.Expansion.{fresh_of}
+use Rattle.wp_plain.specs.Laws.{AllAreCounted}
 
 -- ---- the sets of i atoms
 set_members : (i : ℕ) (atoms set : List ℕ) → In set (sets_of i atoms) → (q : ℕ) → In q set → In q atoms
@@ -114,12 +119,12 @@ has_tuple width atoms all x size small =
     answer
 
 -- later nodes change nothing
-pub fresh-later : (task : PlanningTask) (states : List (List Bool)) (number : ℕ) (xs : List Successor) (g : Generated) →
-    In g (fresh_of task states number xs) → number ≤ g.number
-fresh-later task states number [] g there = absurd there
-fresh-later task states number (x ∷ xs) g (inl same) = let is : g.number ≡ number = ap (λ y. y.number) same in omega arith
-fresh-later task states number (x ∷ xs) g (inr later) =
-    let rest : number + 1 ≤ g.number = fresh-later task states (number + 1) xs g later in omega arith
+pub fresh-later : (counters : List (List Bool) → ℕ × ℕ) (states : List (List Bool)) (number : ℕ) (xs : List Successor) (g : Generated) →
+    In g (fresh_of counters states number xs) → number ≤ g.number
+fresh-later counters states number [] g there = absurd there
+fresh-later counters states number (x ∷ xs) g (inl same) = let is : g.number ≡ number = ap (λ y. y.number) same in omega arith
+fresh-later counters states number (x ∷ xs) g (inr later) =
+    let rest : number + 1 ≤ g.number = fresh-later counters states (number + 1) xs g later in omega arith
 
 pub new-later : (all more : List Generated) (x : Generated) (tuple : List ℕ) → ((y : Generated) → In y more → x.number < y.number) →
     IsNewAt all x tuple → IsNewAt (all ++ more) x tuple
@@ -130,3 +135,29 @@ new-later all more x tuple late is = record {
   by : (y : Generated) → y.number < x.number → y.counters ≡ x.counters → In y all ⊎ In y more → All (IsIn y.state) tuple → ⊥
   by y before same (inl old) = is.new y (Contains-from_In y all old) before same
   by y before same (inr new) = let after : x.number < y.number = late y new in absurd (omega arith)
+
+-- ---- places of tuples
+placed_at : (tuples : List (List ℕ)) (tuple : List ℕ) → Contains tuples tuple →
+    (place_in tuples tuple < length tuples) × (get_or tuples (place_in tuples tuple) [] ≡ tuple)
+placed_at tuples tuple there =
+    let test = pointwise nat_eq tuple in
+    let itself : test tuple ≡ true = (slice_eq-Decides unsigned_Decides tuple tuple (test tuple) refl).1 refl in
+    let read : get_or tuples there.0 [] ≡ tuple = get_or_default tuples there.0 [] tuple there.1 ∙ there.2 in
+    let before : place_in tuples tuple ≤ there.0 = ⊎_elim
+    (λ (later : there.0 < place_in tuples tuple).
+    absurd (both_ways (test (get_or tuples there.0 [])) (fails_before_first test tuples there.0 [] later) (ap test read ∙ itself)))
+    (λ (first : place_in tuples tuple ≤ there.0). first)
+    (cases_lt there.0 (place_in tuples tuple)) in
+    let below : place_in tuples tuple < length tuples = omega (arith, there.1) in
+    let found = get_or tuples (place_in tuples tuple) [] in
+    (below, sym ((slice_eq-Decides unsigned_Decides tuple found (test found) refl).0 (passes_at_first test tuples [] below)))
+
+pub all_are_counted : AllAreCounted
+all_are_counted task width =
+    let tuples = tuples_in width task.atoms in
+    record {
+      all = λ state tuple reachable there holds. there;
+      below = λ tuple there. (placed_at tuples tuple there).0;
+      apart = λ x y there also same.
+          sym (placed_at tuples x there).1 ∙ (ap (λ k. get_or tuples k []) same ∙ (placed_at tuples y also).1);
+    }

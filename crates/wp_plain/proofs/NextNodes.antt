@@ -1,26 +1,21 @@
 -- The nodes and paths after an expansion: each node is one of before, or a child with the path to it.
-use Rattle.std.proofs.Common.{◌≡◌, ◌⊎◌, ℕ, suc, ◌+◌, ◌<◌, Bool, true, false, List, [], ◌∷◌, ◌++◌, length, map, get_or, set, refl, sym, ap, ◌∙◌, subst, inl, inr, arith, length-append, length-set}
-use Rattle.std.specs.List.{filter, list_any, range_with_len}
-use Rattle.std.specs.Bool.{beq}
-use Rattle.std.specs.Cmp.{booleans_Decides}
-use Rattle.std.specs.Cmp.Lexicographic.{pointwise}
+use Rattle.std.proofs.Common.{◌≡◌, ◌⊎◌, ℕ, suc, ◌+◌, ◌<◌, Bool, true, List, [], ◌∷◌, ◌++◌, length, map, get_or, set, refl, sym, ap, ◌∙◌, subst, inl, inr, arith, length-append, length-set}
+use Rattle.std.specs.List.{filter, range_with_len}
 use Rattle.std.proofs.Math.Seq.{map-set_same}
 use Rattle.std.proofs.lemmas.List.{map-append, length-map, get_or-append-add, get_or_append_left}
 use Rattle.std.proofs.lemmas.List.Elements.{All-contains, filter-append}
 use Rattle.std.proofs.lemmas.List.FromFn.{get_or-range_with_len, length-range_with_len}
-use Rattle.std.proofs.lemmas.Slice.Eq.{slice_eq-Decides}
 use Rattle.wp_task.specs.declared.acts.Act.{Act}
 use Rattle.wp_task.specs.Task.{PlanningTask, act_at, applies, applicable_in, result_of}
 use Rattle.wp_task.specs.Novelty.{Generated, novelty_of}
-use Rattle.wp_task.proofs.Members.{In, In-at, Contains-from_In, In-map, In-map_cases, In-filter, In-filter_cases, In-append_cases, list_any-at}
+use Rattle.wp_task.proofs.Members.{In-from_Contains, In, In-at, Contains-from_In, In-map, In-map_cases, In-filter, In-filter_cases, In-append_cases}
 use Rattle.wp_task.proofs.TaskLemmas.{range_below}
 use Rattle.wp_plain.specs.declared.settings.Settings.{Settings}
-use Rattle.wp_plain.specs.Nodes.{Node, Path, Successor, no_path, path_at, extended, generated_in, states_kept}
-use Rattle.wp_plain.specs.Expansion.{successors_of, unseen, generated_at, fresh_of, with_novelty, node_of}
-use Rattle.wp_plain.specs.Run.{Moment, expanded}
-use Rattle.wp_plain.proofs.StepCases.{fresh_at, children_at, all_at, nodes_at, repeats_at}
-use Rattle.wp_plain.specs.Numbers.{CountUp, IsNumbered}
-use Rattle.wp_plain.proofs.NumberLemmas.{number_below, node_there, CountUp-append, CountUp-set, In-set_cases, kept-set}
+use Rattle.wp_plain.specs.Nodes.{Node, left, Path, Successor, no_path, path_at, extended, generated_in, states_kept}
+use Rattle.wp_plain.specs.Expansion.{path_counters, successors_of, generated_at, fresh_of, with_novelty, node_of}
+use Rattle.wp_plain.specs.Run.{Moment, expanded, fresh_at, children_at, all_at, nodes_at, repeats_at}
+use Rattle.wp_plain.specs.Numbers.{CountUp, IsNumbered, NodesAreNumbered}
+use Rattle.wp_plain.proofs.NumberLemmas.{number_below, one_node, node_there, CountUp-append, CountUp-set, In-set_cases, kept-set}
 
 -- ---- numbers of a range
 pub In-range : (n q : ℕ) → q < n → In q (range_with_len 0 n)
@@ -56,51 +51,8 @@ successor_there acts state a within applied =
     In-map (λ b. record { act = b; state = result_of (act_at acts b) state }) (applicable_in acts state) a
     (In-filter (λ b. applies (act_at acts b) state) (range_with_len 0 (length acts)) a (In-range (length acts) a within) applied)
 
--- ---- what is unseen
-same_state : (s t : List Bool) → pointwise beq s t ≡ true → s ≡ t
-same_state s t = (slice_eq-Decides booleans_Decides s t (pointwise beq s t) refl).0
-
-seen_there : (seen : List (List Bool)) (s : List Bool) → list_any (pointwise beq s) seen ≡ true → In s seen
-seen_there seen s some =
-    let found : (t : List Bool) × In t seen × (pointwise beq s t ≡ true) = list_any-at (pointwise beq s) seen some in
-    subst (λ t. In t seen) (sym (same_state s found.0 found.2)) found.1
-
-module _ {X : Type 0} (state : X → List Bool) where
-  pub unseen-sub : (seen : List (List Bool)) (xs : List X) (x : X) → In x (unseen state seen xs) → In x xs
-  unseen-sub seen [] x there = absurd there
-  unseen-sub seen (y ∷ xs) x there = by (list_any (pointwise beq (state y)) seen) there (unseen-sub seen xs x) (unseen-sub (seen ++ state y ∷ []) xs x) where
-    by : (b : Bool) → In x (elim b as (λ _. List X) [ true ↦ unseen state seen xs | false ↦ y ∷ unseen state (seen ++ state y ∷ []) xs ]) →
-        (In x (unseen state seen xs) → In x xs) → (In x (unseen state (seen ++ state y ∷ []) xs) → In x xs) → In x (y ∷ xs)
-    by true there old new = inr (old there)
-    by false (inl same) old new = inl same
-    by false (inr later) old new = inr (new later)
-
-  -- each state is that of a seen one or of an unseen one
-  pub unseen_covers : (seen : List (List Bool)) (xs : List X) (x : X) → In x xs → In (state x) seen ⊎ In (state x) (map state (unseen state seen xs))
-  unseen_covers seen [] x there = absurd there
-  unseen_covers seen (y ∷ xs) x there =
-      by (list_any (pointwise beq (state y)) seen) refl there (unseen_covers seen xs x) (unseen_covers (seen ++ state y ∷ []) xs x) where
-        behind : In (state x) (seen ++ state y ∷ []) ⊎ In (state x) (map state (unseen state (seen ++ state y ∷ []) xs)) →
-            In (state x) seen ⊎ In (state x) (state y ∷ map state (unseen state (seen ++ state y ∷ []) xs))
-        behind (inr later) = inr (inr later)
-        behind (inl before) = at (In-append_cases seen (state y ∷ []) (state x) before) where
-          at : In (state x) seen ⊎ In (state x) (state y ∷ []) →
-              In (state x) seen ⊎ In (state x) (state y ∷ map state (unseen state (seen ++ state y ∷ []) xs))
-          at (inl old) = inl old
-          at (inr (inl same)) = inr (inl same)
-          at (inr (inr none)) = absurd none
-
-        by : (b : Bool) → list_any (pointwise beq (state y)) seen ≡ b → In x (y ∷ xs) →
-            (In x xs → In (state x) seen ⊎ In (state x) (map state (unseen state seen xs))) →
-            (In x xs → In (state x) (seen ++ state y ∷ []) ⊎ In (state x) (map state (unseen state (seen ++ state y ∷ []) xs))) →
-            In (state x) seen ⊎ In (state x) (map state (elim b as (λ _. List X) [ true ↦ unseen state seen xs | false ↦ y ∷ unseen state (seen ++ state y ∷ []) xs ]))
-        by true is (inl same) old new = inl (subst (λ s. In s seen) (ap state (sym same)) (seen_there seen (state y) is))
-        by true is (inr later) old new = old later
-        by false is (inl same) old new = inr (inl (ap state same))
-        by false is (inr later) old new = behind (new later)
-
 -- ---- children
-module _ (task : PlanningTask) (settings : Settings) (all : List Generated) (p : Path) where
+module _ (counters : List (List Bool) → ℕ × ℕ) (settings : Settings) (all : List Generated) (p : Path) where
   -- the node is that of the fresh successor x, which has the place i
   pub record IsChild (number : ℕ) (xs : List Successor) (y : Node) : Type 0 where
     pub place : ℕ
@@ -109,11 +61,11 @@ module _ (task : PlanningTask) (settings : Settings) (all : List Generated) (p :
     pub within : place < length xs
     pub path : get_or (map (extended p) xs) place no_path ≡ extended p from
     pub novelty : ℕ
-    pub novelty_is : novelty ≡ novelty_of settings.width all (generated_at task p.states (number + place) from.state)
-    pub is : y ≡ with_novelty settings (generated_at task p.states (number + place) from.state) novelty
+    pub novelty_is : novelty ≡ novelty_of settings.width all (generated_at counters p.states (number + place) from.state)
+    pub is : y ≡ with_novelty settings (generated_at counters p.states (number + place) from.state) novelty
 
   pub child_at : (number : ℕ) (xs : List Successor) (y : Node) →
-      In y (map (node_of settings all) (fresh_of task p.states number xs)) → IsChild number xs y
+      In y (map (node_of settings all) (fresh_of counters p.states number xs)) → IsChild number xs y
   child_at number [] y there = absurd there
   child_at number (x ∷ xs) y (inl same) =
       let none : number ≡ number + 0 = omega arith in
@@ -123,9 +75,9 @@ module _ (task : PlanningTask) (settings : Settings) (all : List Generated) (p :
         there = inl refl;
         within = omega arith;
         path = refl;
-        novelty = novelty_of settings.width all (generated_at task p.states (number + 0) x.state);
+        novelty = novelty_of settings.width all (generated_at counters p.states (number + 0) x.state);
         novelty_is = refl;
-        is = same ∙ ap (λ k. node_of settings all (generated_at task p.states k x.state)) none;
+        is = same ∙ ap (λ k. node_of settings all (generated_at counters p.states k x.state)) none;
       }
   child_at number (x ∷ xs) y (inr later) =
       let rest = child_at (number + 1) xs y later in
@@ -138,21 +90,21 @@ module _ (task : PlanningTask) (settings : Settings) (all : List Generated) (p :
         within = omega arith;
         path = rest.path;
         novelty = rest.novelty;
-        novelty_is = rest.novelty_is ∙ ap (λ k. novelty_of settings.width all (generated_at task p.states k rest.from.state)) next;
-        is = rest.is ∙ ap (λ k. with_novelty settings (generated_at task p.states k rest.from.state) rest.novelty) next;
+        novelty_is = rest.novelty_is ∙ ap (λ k. novelty_of settings.width all (generated_at counters p.states k rest.from.state)) next;
+        is = rest.is ∙ ap (λ k. with_novelty settings (generated_at counters p.states k rest.from.state) rest.novelty) next;
       }
 
-  children-count : (number : ℕ) (xs : List Successor) → CountUp number (map (node_of settings all) (fresh_of task p.states number xs))
+  children-count : (number : ℕ) (xs : List Successor) → CountUp number (map (node_of settings all) (fresh_of counters p.states number xs))
   children-count number [] = tt
   children-count number (x ∷ xs) = (refl, children-count (number + 1) xs)
 
-  pub length-children : (number : ℕ) (xs : List Successor) → length (map (node_of settings all) (fresh_of task p.states number xs)) ≡ length xs
+  pub length-children : (number : ℕ) (xs : List Successor) → length (map (node_of settings all) (fresh_of counters p.states number xs)) ≡ length xs
   length-children number [] = refl
   length-children number (x ∷ xs) = ap suc (length-children (number + 1) xs)
 
   -- each fresh state is that of a child
   pub child_for : (number : ℕ) (xs : List Successor) (s : List Bool) → In s (map (λ x. x.state) xs) →
-      In s (map (λ n. n.generated.state) (map (node_of settings all) (fresh_of task p.states number xs)))
+      In s (map (λ n. n.generated.state) (map (node_of settings all) (fresh_of counters p.states number xs)))
   child_for number [] s there = absurd there
   child_for number (x ∷ xs) s (inl same) = inl same
   child_for number (x ∷ xs) s (inr later) = inr (child_for (number + 1) xs s later)
@@ -162,9 +114,6 @@ generated_in-nodes settings all [] = refl
 generated_in-nodes settings all (g ∷ gs) = ap (λ l. g ∷ l) (generated_in-nodes settings all gs)
 
 -- ---- moments
-abbrev pub left : Node → Node
-left node = record node { waits = false }
-
 module _ (task : PlanningTask) (settings : Settings) (m : Moment) (node : Node) (numbered : IsNumbered m) (there : In node m.nodes) where
   abbrev pub next : Moment
   next = expanded m node (repeats_at task m node) (fresh_at task m node) (nodes_at task settings m node)
@@ -207,21 +156,21 @@ module _ (task : PlanningTask) (settings : Settings) (m : Moment) (node : Node) 
       let nodes : length (earlier ++ nodes_at task settings m node) ≡ length earlier + length (nodes_at task settings m node) =
       length-append earlier (nodes_at task settings m node) in
       let children : length (nodes_at task settings m node) ≡ length (fresh_at task m node) =
-      length-children task settings (all_at task m node) path (length m.nodes) (fresh_at task m node) in
+      length-children (path_counters task) settings (all_at task m node) path (length m.nodes) (fresh_at task m node) in
       let count : length m.paths ≡ length m.nodes = numbered.count in
       record {
         count = omega arith;
         numbers = CountUp-append 0 earlier (nodes_at task settings m node)
             (CountUp-set 0 m.nodes node.generated.number (left node) numbered.numbers place)
             (subst (λ k. CountUp k (nodes_at task settings m node)) from
-            (children-count task settings (all_at task m node) path (length m.nodes) (fresh_at task m node)));
+            (children-count (path_counters task) settings (all_at task m node) path (length m.nodes) (fresh_at task m node)));
       }
 
   -- a node of the next moment: the expanded one, an older one, or a child
   pub data IsNext (y : Node) : Type 0 where
     expanded_one : (is : y ≡ left node) → IsNext y
     older : (there : In y m.nodes) → IsNext y
-    child : (born : IsChild task settings (all_at task m node) path (length m.nodes) (fresh_at task m node) y) → IsNext y
+    child : (born : IsChild (path_counters task) settings (all_at task m node) path (length m.nodes) (fresh_at task m node) y) → IsNext y
 
   pub next_cases : (y : Node) → In y next.nodes → IsNext y
   next_cases y there = by (In-append_cases earlier (nodes_at task settings m node) y there) where
@@ -231,7 +180,7 @@ module _ (task : PlanningTask) (settings : Settings) (m : Moment) (node : Node) 
 
     by : In y earlier ⊎ In y (nodes_at task settings m node) → IsNext y
     by (inl before) = at (In-set_cases m.nodes node.generated.number (left node) y before)
-    by (inr new) = child (child_at task settings (all_at task m node) path (length m.nodes) (fresh_at task m node) y new)
+    by (inr new) = child (child_at (path_counters task) settings (all_at task m node) path (length m.nodes) (fresh_at task m node) y new)
 
   -- ---- paths
   pub path-older : (y : Node) → In y m.nodes → path_at next.paths y.generated.number ≡ path_at m.paths y.generated.number
@@ -240,7 +189,7 @@ module _ (task : PlanningTask) (settings : Settings) (m : Moment) (node : Node) 
       let count : length m.paths ≡ length m.nodes = numbered.count in
       get_or_append_left m.paths (map (extended path) (fresh_at task m node)) no_path y.generated.number (omega arith)
 
-  pub path-child : (y : Node) (born : IsChild task settings (all_at task m node) path (length m.nodes) (fresh_at task m node) y) →
+  pub path-child : (y : Node) (born : IsChild (path_counters task) settings (all_at task m node) path (length m.nodes) (fresh_at task m node) y) →
       path_at next.paths y.generated.number ≡ extended path born.from
   path-child y born =
       let count : length m.paths ≡ length m.nodes = numbered.count in
@@ -248,3 +197,22 @@ module _ (task : PlanningTask) (settings : Settings) (m : Moment) (node : Node) 
       let place : y.generated.number ≡ length m.paths + born.place = omega arith in
       ap (path_at next.paths) place
       ∙ (get_or-append-add m.paths (map (extended path) (fresh_at task m node)) born.place no_path ∙ born.path)
+
+-- ---- numbers stay places
+pub nodes_are_numbered : NodesAreNumbered
+nodes_are_numbered = record {
+  below = λ m x numbered there.
+      let below : x.generated.number < 0 + length m.nodes = number_below 0 m.nodes numbered.numbers x (In-from_Contains x m.nodes there) in
+      omega arith;
+  one = λ m x y numbered there also.
+      one_node 0 m.nodes numbered.numbers x y (In-from_Contains x m.nodes there) (In-from_Contains y m.nodes also);
+  stays = λ task settings m node numbered there.
+      let among = In-from_Contains node m.nodes there in
+      record {
+        place = node-at task settings m node numbered among;
+        numbered = numbered-next task settings m node numbered among;
+        generated = generated-next task settings m node numbered among;
+        kept = states-next task settings m node numbered among;
+        children = length-children (path_counters task) settings (all_at task m node) (path_at m.paths node.generated.number) (length m.nodes) (fresh_at task m node);
+      };
+}

@@ -12,7 +12,7 @@ use Rattle.wp_plain.specs.declared.explored.Way.{Way}
 use Rattle.wp_plain.specs.declared.explored.Explored.{Explored}
 use Rattle.wp_plain.specs.Nodes.{Node, generated_in}
 use Rattle.wp_plain.specs.Pairs.{pairs_in}
-use Rattle.wp_plain.specs.Expansion.{generated_at, root_of}
+use Rattle.wp_plain.specs.Expansion.{path_counters, generated_at, root_of}
 use Rattle.wp_plain.specs.Run.{opening}
 use Rattle.wp_plain.specs.Explored.{node_at, way_at, lists_of, Lists, IsReached, AreReached, Opens}
 use Rattle.wp_plain.proofs.NodeLemmas.{novelty-earlier}
@@ -29,15 +29,15 @@ module _ (task : PlanningTask) (settings : Settings) (counts : MarksCount)
 
   -- the root as it is generated from its mark
   pub root-generated : (state : List Bool) (mark : Mark) → state ≡ task.init → mark ≡ root_mark task →
-      ◌≡◌ {A = Generated} (record { number = 0; counters = (mark.g, mark.r); state = state }) (generated_at task [] 0 task.init)
+      ◌≡◌ {A = Generated} (record { number = 0; counters = (mark.g, mark.r); state = state }) (generated_at (path_counters task) [] 0 task.init)
   root-generated state mark state_is mark_is =
       (λ j. (let x : Generated = record { number = 0; counters = ((mark_is j).g, (mark_is j).r); state = state_is j } in x))
       ∙ (λ j. (let x : Generated = record { number = 0; counters = (counters.unmet j, counters.relaxed j); state = task.init } in x))
 
-  pub root-node : (x : Generated) (w : ℕ) → x ≡ generated_at task [] 0 task.init → w ≡ novelty_of settings.width [] x →
+  pub root-node : (x : Generated) (w : ℕ) → x ≡ generated_at (path_counters task) [] 0 task.init → w ≡ novelty_of settings.width [] x →
       ◌≡◌ {A = Node} (record { generated = x; w = w; kept = true; waits = true }) (root_of task settings)
   root-node x w x_is w_is =
-      let novelty = w_is ∙ (ap (novelty_of settings.width []) x_is ∙ alone settings.width (generated_at task [] 0 task.init)) in
+      let novelty = w_is ∙ (ap (novelty_of settings.width []) x_is ∙ alone settings.width (generated_at (path_counters task) [] 0 task.init)) in
       λ j. (let n : Node = record { generated = x_is j; w = novelty j; kept = true; waits = true } in n)
 
   root-reached : IsReached task (opening task settings).paths (relaxed_atoms_of task.acts task.goals task.init ∷ []) 0 (root_of task settings).generated

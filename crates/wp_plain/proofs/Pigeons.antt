@@ -1,9 +1,11 @@
 -- The pigeonhole principle, for items that have codes.
-use Rattle.std.proofs.Common.{◌≡◌, ◌⊎◌, ℕ, suc, ◌<◌, ◌≤◌, Bool, true, false, cond, List, [], ◌∷◌, ◌++◌, length, eqb, refl, sym, ap, subst, inl, inr, filter}
-use Rattle.std.specs.List.{AllByRecursion, IsDistinct}
+use Rattle.std.proofs.Common.{◌≡◌, ◌≢◌, ◌⊎◌, ◌∙◌, arith, ℕ, suc, ◌<◌, ◌≤◌, Bool, true, false, cond, List, [], ◌∷◌, ◌++◌, length, eqb, refl, sym, ap, subst, inl, inr, filter}
+use Rattle.std.specs.List.{AllByRecursion, AllPairs, IsDistinct}
+use Rattle.std.proofs.lemmas.List.{get_or_default}
+use Rattle.std.proofs.lemmas.List.Kept.{AllPairs-cons}
 use Rattle.std.proofs.lemmas.Bool.{eqb-true, ne_eqb}
 use Rattle.std.proofs.lemmas.Map.Steps.{length-le_from_distinct_below}
-use Rattle.wp_task.proofs.Members.{In, In-append_cases, In-filter_cases, list_any-at}
+use Rattle.wp_task.proofs.Members.{In, In-at, Contains-from_In, In-append_cases, In-filter_cases, list_any-at}
 
 -- no item is there twice
 abbrev pub AreApart : {X : Type 0} → List X → Type 0
@@ -24,6 +26,22 @@ AreApart-filter {X = X} t (x ∷ xs) apart = by (t x) (AreApart-filter t xs apar
   by : (b : Bool) → AreApart (filter t xs) → AreApart (cond b (x ∷ filter t xs) (filter t xs))
   by true rest = (λ there. apart.0 (In-filter_cases t xs x there).0, rest)
   by false rest = rest
+
+pub apart_pairs : {X : Type 0} (xs : List X) → AreApart xs → AllPairs (λ x y. x ≢ y) xs
+apart_pairs [] apart = λ i j d before within. absurd (omega arith)
+apart_pairs {X = X} (x ∷ xs) apart =
+    AllPairs-cons (λ (y z : X). y ≢ z) x xs
+    (λ k d within same. apart.0 (In-at x xs k within (get_or_default xs k x d within ∙ sym same)))
+    (apart_pairs xs apart.1)
+
+pub pairs_apart : {X : Type 0} (xs : List X) → AllPairs (λ x y. x ≢ y) xs → AreApart xs
+pairs_apart [] pairs = tt
+pairs_apart (x ∷ xs) pairs = (
+  (λ there.
+      let at = Contains-from_In x xs there in
+      pairs 0 (suc at.0) x (omega arith) (omega (arith, at.1)) (sym (get_or_default xs at.0 x x at.1 ∙ at.2))),
+  pairs_apart xs (λ i j d before within. pairs (suc i) (suc j) d (omega (arith, before)) (omega (arith, within))),
+)
 
 -- each item has a code below n, and two items with one code are one
 module _ {X : Type 0} (R : X → ℕ → Type 0) (n : ℕ) where

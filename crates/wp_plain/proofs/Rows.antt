@@ -4,12 +4,14 @@ use Rattle.std.specs.List.{flat_map, range_with_len}
 use Rattle.wp_task.specs.declared.acts.Act.{Act}
 use Rattle.wp_task.specs.Set.{set_of}
 use Rattle.wp_task.specs.Task.{PlanningTask}
+use Rattle.wp_watch.specs.declared.event.Event.{Event}
 use Rattle.wp_plain.specs.declared.settings.Search.{Search}
 use Rattle.wp_plain.specs.declared.settings.Search.TheVariants.{KBfws, F5}
 use Rattle.wp_plain.specs.declared.settings.Settings.{Settings}
 use Rattle.wp_plain.specs.declared.ending.Ending.{Ending}
 use Rattle.wp_plain.specs.declared.ending.How.{How}
 use Rattle.wp_plain.specs.declared.ending.How.TheVariants.{Found, Emptied, Budget, Words}
+use Rattle.wp_plain.specs.Pairs.{all_tuples}
 use Rattle.wp_plain.specs.Run.{run, ending_of}
 
 abbrev with : Search → ℕ → ℕ → ℕ → Settings
@@ -18,6 +20,13 @@ with search width budget words =
 
 abbrev usual : Search → ℕ → Settings
 usual search width = with search width 1000000 134217728
+
+-- where all tuples are counted
+abbrev ending : PlanningTask → Settings → Ending
+ending task settings = ending_of task settings (all_tuples task settings)
+
+abbrev events : PlanningTask → Settings → List Event
+events task settings = (run task settings (all_tuples task settings)).1.events
 
 -- expanded, numbered, kept, pruned, repeats, pairs
 abbrev ends : How → ℕ → ℕ → ℕ → ℕ → ℕ → ℕ → Ending
@@ -33,10 +42,10 @@ chain goals = record {
   acts = record { pre = 0 ∷ []; add = 1 ∷ []; del = [] } ∷ record { pre = 1 ∷ []; add = 2 ∷ []; del = 0 ∷ [] } ∷ [];
 }
 
-chain_ends : ending_of (chain (2 ∷ [])) (usual KBfws 1) ≡ ends (Found (0 ∷ 1 ∷ [])) 2 3 3 0 1 3
+chain_ends : ending (chain (2 ∷ [])) (usual KBfws 1) ≡ ends (Found (0 ∷ 1 ∷ [])) 2 3 3 0 1 3
 chain_ends = refl
 
-chain_events : (run (chain (2 ∷ [])) (usual KBfws 1)).1.events ≡
+chain_events : events (chain (2 ∷ [])) (usual KBfws 1) ≡
     record {
       number = 0;
       w = 1;
@@ -57,26 +66,26 @@ chain_events : (run (chain (2 ∷ [])) (usual KBfws 1)).1.events ≡
 chain_events = refl
 
 -- a goal that is true at the root, and no goal at all
-chain_met : ending_of (chain (0 ∷ [])) (usual KBfws 1) ≡ ends (Found []) 0 1 1 0 0 1
+chain_met : ending (chain (0 ∷ [])) (usual KBfws 1) ≡ ends (Found []) 0 1 1 0 0 1
 chain_met = refl
 
-chain_no_goal : ending_of (chain []) (usual KBfws 1) ≡ ends (Found []) 0 1 1 0 0 1
+chain_no_goal : ending (chain []) (usual KBfws 1) ≡ ends (Found []) 0 1 1 0 0 1
 chain_no_goal = refl
 
 -- the budget, and the limit of words: three atoms are three tuples
-chain_budget : ending_of (chain (2 ∷ [])) (with KBfws 1 1 134217728) ≡ ends Budget 1 2 2 0 0 2
+chain_budget : ending (chain (2 ∷ [])) (with KBfws 1 1 134217728) ≡ ends Budget 1 2 2 0 0 2
 chain_budget = refl
 
-chain_enough : ending_of (chain (2 ∷ [])) (with KBfws 1 2 134217728) ≡ ends (Found (0 ∷ 1 ∷ [])) 2 3 3 0 1 3
+chain_enough : ending (chain (2 ∷ [])) (with KBfws 1 2 134217728) ≡ ends (Found (0 ∷ 1 ∷ [])) 2 3 3 0 1 3
 chain_enough = refl
 
-chain_words : ending_of (chain (2 ∷ [])) (with KBfws 1 1000000 9) ≡ ends (Found (0 ∷ 1 ∷ [])) 2 3 3 0 1 3
+chain_words : ending (chain (2 ∷ [])) (with KBfws 1 1000000 9) ≡ ends (Found (0 ∷ 1 ∷ [])) 2 3 3 0 1 3
 chain_words = refl
 
-chain_few_words : ending_of (chain (2 ∷ [])) (with KBfws 1 1000000 8) ≡ ends (Words 3) 1 2 2 0 0 2
+chain_few_words : ending (chain (2 ∷ [])) (with KBfws 1 1000000 8) ≡ ends (Words 3) 1 2 2 0 0 2
 chain_few_words = refl
 
-chain_no_words : ending_of (chain (2 ∷ [])) (with KBfws 1 1000000 2) ≡ ends (Words 1) 0 1 1 0 0 1
+chain_no_words : ending (chain (2 ∷ [])) (with KBfws 1 1000000 2) ≡ ends (Words 1) 0 1 1 0 0 1
 chain_no_words = refl
 
 -- a root without a true atom has no tuple, and is kept all the same
@@ -88,7 +97,7 @@ empty = record {
   acts = record { pre = []; add = 0 ∷ []; del = [] } ∷ record { pre = []; add = 1 ∷ []; del = [] } ∷ [];
 }
 
-empty_ends : ending_of empty (usual KBfws 1) ≡ ends (Found (0 ∷ 1 ∷ [])) 2 4 4 0 1 3
+empty_ends : ending empty (usual KBfws 1) ≡ ends (Found (0 ∷ 1 ∷ [])) 2 4 4 0 1 3
 empty_ends = refl
 
 -- a trap: the short way to z spends s, and the long one needs m, n and o (atoms s t z m n o)
@@ -106,13 +115,13 @@ trap = record {
       ∷ [];
 }
 
-trap_one : ending_of trap (usual KBfws 1) ≡ ends Emptied 8 20 8 12 9 2
+trap_one : ending trap (usual KBfws 1) ≡ ends Emptied 8 20 8 12 9 2
 trap_one = refl
 
-trap_two : ending_of trap (usual KBfws 2) ≡ ends Emptied 14 20 14 6 30 2
+trap_two : ending trap (usual KBfws 2) ≡ ends Emptied 14 20 14 6 30 2
 trap_two = refl
 
-trap_all : ending_of trap (usual F5 2) ≡ ends (Found (2 ∷ 3 ∷ 4 ∷ 5 ∷ [])) 15 17 17 0 38 3
+trap_all : ending trap (usual F5 2) ≡ ends (Found (2 ∷ 3 ∷ 4 ∷ 5 ∷ [])) 15 17 17 0 38 3
 trap_all = refl
 
 -- the trap with its two first actions alone has no plan (atoms s t z, of which s is deleted)
@@ -124,7 +133,7 @@ short = record {
   acts = record { pre = 0 ∷ []; add = 1 ∷ []; del = 0 ∷ [] } ∷ record { pre = 0 ∷ 1 ∷ []; add = 2 ∷ []; del = [] } ∷ [];
 }
 
-short_ends : ending_of short (usual F5 2) ≡ ends Emptied 2 2 2 0 0 2
+short_ends : ending short (usual F5 2) ≡ ends Emptied 2 2 2 0 0 2
 short_ends = refl
 
 -- two actions that do the same: the second child is a repeat
@@ -136,7 +145,7 @@ twins = record {
   acts = record { pre = 0 ∷ []; add = 1 ∷ []; del = 0 ∷ [] } ∷ record { pre = 0 ∷ []; add = 1 ∷ []; del = 0 ∷ [] } ∷ [];
 }
 
-twins_end : ending_of twins (usual F5 2) ≡ ends (Found (0 ∷ [])) 1 2 2 0 1 2
+twins_end : ending twins (usual F5 2) ≡ ends (Found (0 ∷ [])) 1 2 2 0 1 2
 twins_end = refl
 
 -- four blocks on a table, which make two towers
@@ -198,7 +207,7 @@ blocks = record {
 }
 
 -- pick up a, stack it on b, pick up c, stack it on d
-blocks_end : ending_of blocks (usual F5 2) ≡ ends (Found (0 ∷ 9 ∷ 2 ∷ 19 ∷ [])) 4 12 12 0 3 5
+blocks_end : ending blocks (usual F5 2) ≡ ends (Found (0 ∷ 9 ∷ 2 ∷ 19 ∷ [])) 4 12 12 0 3 5
 blocks_end = refl
 
 -- an action that deletes and adds an atom leaves it true
@@ -210,7 +219,7 @@ same = record {
   acts = record { pre = 0 ∷ []; add = 0 ∷ 1 ∷ []; del = [] } ∷ [];
 }
 
-same_ends : ending_of same (usual F5 2) ≡ ends (Found (0 ∷ [])) 1 2 2 0 0 2
+same_ends : ending same (usual F5 2) ≡ ends (Found (0 ∷ [])) 1 2 2 0 0 2
 same_ends = refl
 
 -- levels: the cost of the goal doubles with each level, and is infinite from the sixty-first on
@@ -225,5 +234,5 @@ levels n = record {
   acts = map level (range_with_len 1 n);
 }
 
-levels_end : ending_of (levels 4) (usual F5 2) ≡ ends (Found (0 ∷ 1 ∷ 2 ∷ 3 ∷ [])) 4 5 5 0 6 5
+levels_end : ending (levels 4) (usual F5 2) ≡ ends (Found (0 ∷ 1 ∷ 2 ∷ 3 ∷ [])) 4 5 5 0 6 5
 levels_end = refl

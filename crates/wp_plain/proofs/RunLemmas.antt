@@ -1,5 +1,6 @@
 -- A step and a run, test by test.
-use Rattle.std.proofs.Common.{◌≡◌, ◌==◌, ℕ, suc, ◌+◌, true, false, List, [], Option, Some, None, length, sym, ap, ◌∙◌}
+use Rattle.std.proofs.Common.{◌≡◌, ◌==◌, ℕ, suc, ◌+◌, Bool, refl, true, false, List, [], Option, Some, None, length, sym, ap, ◌∙◌}
+use Rattle.std.proofs.lemmas.Bool.{eq-eqb, ne_eqb}
 use Rattle.wp_task.specs.Task.{PlanningTask}
 use Rattle.wp_watch.specs.declared.event.Event.{Event}
 use Rattle.wp_watch.specs.declared.watch.WatchKind.{WatchKind}
@@ -8,29 +9,29 @@ use Rattle.wp_plain.specs.declared.ending.How.{How}
 use Rattle.wp_plain.specs.declared.ending.How.TheVariants.{Found, Budget, Words}
 use Rattle.wp_plain.specs.declared.explored.Explored.{Explored}
 use Rattle.wp_plain.specs.Nodes.{Node, Path, path_at}
-use Rattle.wp_plain.specs.Pairs.{tuple_count, exceeds}
-use Rattle.wp_plain.specs.Run.{Moment, Outcome, expand, look_at, opening, run, step, run_from}
+use Rattle.wp_plain.specs.Pairs.{pairs_in, exceeds}
+use Rattle.wp_plain.specs.Run.{Moment, Outcome, fresh_at, all_at, nodes_at, repeats_at, expanded, IsTaken, expand, look_at, opening, run, step, run_from}
 use Rattle.wp_plain.specs.Run.Outcome.{Goes, Ends}
 use Rattle.wp_plain.specs.Explored.{Watched, moment_of, StandsFor, Steps, StepsFrom}
 
-module _ (task : PlanningTask) (settings : Settings) where
+module _ (task : PlanningTask) (settings : Settings) (tuples : ℕ) where
   pub look_at-found : (m : Moment) (node : Node) (plan : List ℕ) → (node.generated.counters.0 == 0) ≡ true → plan ≡ (path_at m.paths node.generated.number).acts →
-      look_at task settings m (Some node) ≡ Ends (Found plan)
+      look_at task settings tuples m (Some node) ≡ Ends (Found plan)
   look_at-found m node plan met plan_is =
       ap (λ b. elim b as (λ _. Outcome) [
         | true ↦ Ends (Found (path_at m.paths node.generated.number).acts)
-        | false ↦ elim (length m.events == settings.budget) as (λ _. Outcome) [ true ↦ Ends Budget | false ↦ expand task settings m node ]
+        | false ↦ elim (length m.events == settings.budget) as (λ _. Outcome) [ true ↦ Ends Budget | false ↦ expand task settings tuples m node ]
       ]) met
       ∙ ap (λ acts. Ends (Found acts)) (sym plan_is)
 
   pub look_at-expands : (m : Moment) (node : Node) → (node.generated.counters.0 == 0) ≡ false → (length m.events == settings.budget) ≡ false →
-      look_at task settings m (Some node) ≡ expand task settings m node
+      look_at task settings tuples m (Some node) ≡ expand task settings tuples m node
   look_at-expands m node unmet spare =
       ap (λ b. elim b as (λ _. Outcome) [
         | true ↦ Ends (Found (path_at m.paths node.generated.number).acts)
-        | false ↦ elim (length m.events == settings.budget) as (λ _. Outcome) [ true ↦ Ends Budget | false ↦ expand task settings m node ]
+        | false ↦ elim (length m.events == settings.budget) as (λ _. Outcome) [ true ↦ Ends Budget | false ↦ expand task settings tuples m node ]
       ]) unmet
-      ∙ ap (λ b. elim b as (λ _. Outcome) [ true ↦ Ends Budget | false ↦ expand task settings m node ]) spare
+      ∙ ap (λ b. elim b as (λ _. Outcome) [ true ↦ Ends Budget | false ↦ expand task settings tuples m node ]) spare
 
   -- outcomes that are the same from each moment
   steps-same : (watchers : List (WatchKind × Option ℕ)) (outcome other : Outcome) (s later : Watched) (how : Option How) → outcome ≡ other →
@@ -47,27 +48,58 @@ module _ (task : PlanningTask) (settings : Settings) where
       (same watchers paths events stands) (went watchers paths events stands)
 
   -- one step more
-  pub run_from-goes : (steps : ℕ) (m next : Moment) → step task settings m ≡ Goes next → run_from task settings (suc steps) m ≡ run_from task settings steps next
-  run_from-goes steps m next goes = ap (λ o. elim o as (λ _. How × Moment) [ Goes after ↦ run_from task settings steps after | Ends how ↦ (how, m) ]) goes
+  pub run_from-goes : (steps : ℕ) (m next : Moment) → step task settings tuples m ≡ Goes next → run_from task settings tuples (suc steps) m ≡ run_from task settings tuples steps next
+  run_from-goes steps m next goes = ap (λ o. elim o as (λ _. How × Moment) [ Goes after ↦ run_from task settings tuples steps after | Ends how ↦ (how, m) ]) goes
 
-  pub run_from-ends : (steps : ℕ) (m : Moment) (how : How) → step task settings m ≡ Ends how → run_from task settings (suc steps) m ≡ (how, m)
-  run_from-ends steps m how ends = ap (λ o. elim o as (λ _. How × Moment) [ Goes after ↦ run_from task settings steps after | Ends end ↦ (end, m) ]) ends
+  pub run_from-ends : (steps : ℕ) (m : Moment) (how : How) → step task settings tuples m ≡ Ends how → run_from task settings tuples (suc steps) m ≡ (how, m)
+  run_from-ends steps m how ends = ap (λ o. elim o as (λ _. How × Moment) [ Goes after ↦ run_from task settings tuples steps after | Ends end ↦ (end, m) ]) ends
 
   -- the run begins with the steps from the opening, unless the root's pair wants too many words
-  pub run-goes : (e : Explored) → exceeds settings.words 1 (tuple_count settings.width task.atoms) ≡ false → e.nodes.items ≡ (opening task settings).nodes →
-      run task settings ≡ run_from task settings (settings.budget + 1) (moment_of e (opening task settings).paths [])
+  pub run-goes : (e : Explored) → exceeds settings.words 1 tuples ≡ false → e.nodes.items ≡ (opening task settings).nodes →
+      run task settings tuples ≡ run_from task settings tuples (settings.budget + 1) (moment_of e (opening task settings).paths [])
   run-goes e few nodes =
       ap (λ b. elim b as (λ _. How × Moment) [
         | true ↦ (Words 1, opening task settings)
-        | false ↦ run_from task settings (settings.budget + 1) (opening task settings)
+        | false ↦ run_from task settings tuples (settings.budget + 1) (opening task settings)
       ]) few
-      ∙ λ j. run_from task settings (settings.budget + 1) (let m : Moment = record { nodes = sym nodes j; paths = (opening task settings).paths; events = [] } in m)
+      ∙ λ j. run_from task settings tuples (settings.budget + 1) (let m : Moment = record { nodes = sym nodes j; paths = (opening task settings).paths; events = [] } in m)
 
-  pub run-words : (e : Explored) → exceeds settings.words 1 (tuple_count settings.width task.atoms) ≡ true → e.nodes.items ≡ (opening task settings).nodes →
-      run task settings ≡ (Words 1, moment_of e (opening task settings).paths [])
+  pub run-words : (e : Explored) → exceeds settings.words 1 tuples ≡ true → e.nodes.items ≡ (opening task settings).nodes →
+      run task settings tuples ≡ (Words 1, moment_of e (opening task settings).paths [])
   run-words e many nodes =
       ap (λ b. elim b as (λ _. How × Moment) [
         | true ↦ (Words 1, opening task settings)
-        | false ↦ run_from task settings (settings.budget + 1) (opening task settings)
+        | false ↦ run_from task settings tuples (settings.budget + 1) (opening task settings)
       ]) many
       ∙ λ j. (Words 1, (let m : Moment = record { nodes = sym nodes j; paths = (opening task settings).paths; events = [] } in m))
+
+  pub is_taken : IsTaken task settings tuples
+  is_taken = record {
+    found = λ m node met. look_at-found m node (path_at m.paths node.generated.number).acts (eq-eqb node.generated.counters.0 0 met) refl;
+    spent = λ m node unmet spent.
+        ap (λ b. elim b as (λ _. Outcome) [
+          | true ↦ Ends (Found (path_at m.paths node.generated.number).acts)
+          | false ↦ elim (length m.events == settings.budget) as (λ _. Outcome) [ true ↦ Ends Budget | false ↦ expand task settings tuples m node ]
+        ]) (ne_eqb node.generated.counters.0 0 unmet)
+        ∙ ap (λ b. elim b as (λ _. Outcome) [ true ↦ Ends Budget | false ↦ expand task settings tuples m node ])
+        (eq-eqb (length m.events) settings.budget spent);
+    spare = λ m node unmet spare.
+        look_at-expands m node (ne_eqb node.generated.counters.0 0 unmet) (ne_eqb (length m.events) settings.budget spare);
+    many = λ m node many. ap (tested m node) many;
+    few = λ m node few. ap (tested m node) few;
+    goes = run_from-goes;
+    ends = run_from-ends;
+    stops = λ many. ap begun many;
+    begins = λ few. ap begun few;
+  } where
+    tested : Moment → Node → Bool → Outcome
+    tested m node b = elim b as (λ _. Outcome) [
+      | true ↦ Ends (Words (length (pairs_in (all_at task m node))))
+      | false ↦ Goes (expanded m node (repeats_at task m node) (fresh_at task m node) (nodes_at task settings m node))
+    ]
+
+    begun : Bool → How × Moment
+    begun b = elim b as (λ _. How × Moment) [
+      | true ↦ (Words 1, opening task settings)
+      | false ↦ run_from task settings tuples (settings.budget + 1) (opening task settings)
+    ]

@@ -12,12 +12,13 @@ use Rattle.wp_relax.specs.RelaxedPlan.{added_by, is_added, relaxed_plan_of}
 use Rattle.wp_count.specs.Counters.{after_base, base_atoms, base_of, in_some, is_base, relaxed_counter}
 use Rattle.wp_plain.specs.declared.settings.Settings.{Settings}
 use Rattle.wp_plain.specs.declared.ending.How.{How}
-use Rattle.wp_plain.specs.Nodes.{Node, Path, path_at, extended, states_kept}
-use Rattle.wp_plain.specs.Expansion.{root_of, successors_of}
-use Rattle.wp_plain.specs.Run.{Moment, opening, run}
+use Rattle.wp_plain.specs.Nodes.{Node, Path, path_at, extended, states_kept, left}
+use Rattle.wp_plain.specs.Expansion.{path_counters, root_of, successors_of}
+use Rattle.wp_plain.specs.Run.{Moment, opening, run, fresh_at, all_at}
 use Rattle.wp_plain.specs.Numbers.{IsNumbered}
-use Rattle.wp_plain.proofs.StepCases.{first_there, fresh_at, all_at, IsEnd, IsExpansion, at_run}
-use Rattle.wp_plain.proofs.NextNodes.{IsChild, IsNext, left, next, next_cases, numbered-next, path-child, path-older, successor_by, unseen-sub}
+use Rattle.wp_plain.proofs.UnseenLemmas.{unseen-sub}
+use Rattle.wp_plain.proofs.StepCases.{first_there, IsEnd, IsExpansion, at_run}
+use Rattle.wp_plain.proofs.NextNodes.{IsChild, IsNext, next, next_cases, numbered-next, path-child, path-older, successor_by}
 use Rattle.wp_plain.proofs.NextNodes.IsNext.{expanded_one, older, child}
 
 -- ---- one action more
@@ -81,7 +82,7 @@ pub record AreTraced (task : PlanningTask) (m : Moment) : Type 0 where
   pub each : (x : Node) → In x m.nodes → IsTraced task x (path_at m.paths x.generated.number)
 
 traced_child : (task : PlanningTask) (settings : Settings) (m : Moment) (node : Node) → AreTraced task m → In node m.nodes →
-    (y : Node) (born : IsChild task settings (all_at task m node) (path_at m.paths node.generated.number) (length m.nodes) (fresh_at task m node) y) →
+    (y : Node) (born : IsChild (path_counters task) settings (all_at task m node) (path_at m.paths node.generated.number) (length m.nodes) (fresh_at task m node) y) →
     IsTraced task y (extended (path_at m.paths node.generated.number) born.from)
 traced_child task settings m node traced there y born =
     let parent = traced.each node there in
@@ -152,20 +153,20 @@ traced-opening task settings =
 
 -- ---- runs
 -- what each expansion keeps of moments whose nodes are traced
-abbrev pub Keeps : PlanningTask → Settings → (Moment → Type 0) → Type 0
-Keeps task settings P = (m : Moment) (node : Node) (traced : AreTraced task m) (there : In node m.nodes) → P m →
-    IsExpansion task settings m (next task settings m node traced.numbered there) node →
+abbrev pub Keeps : PlanningTask → Settings → ℕ → (Moment → Type 0) → Type 0
+Keeps task settings tuples P = (m : Moment) (node : Node) (traced : AreTraced task m) (there : In node m.nodes) → P m →
+    IsExpansion task settings tuples m (next task settings m node traced.numbered there) node →
     P (next task settings m node traced.numbered there)
 
-pub record IsEnded (task : PlanningTask) (settings : Settings) (P : Moment → Type 0) (end : How × Moment) : Type 0 where
+pub record IsEnded (task : PlanningTask) (settings : Settings) (tuples : ℕ) (P : Moment → Type 0) (end : How × Moment) : Type 0 where
   pub traced : AreTraced task end.1
   pub holds : P end.1
-  pub reason : IsEnd task settings end.1 end.0
+  pub reason : IsEnd task settings tuples end.1 end.0
 
-pub ended : (task : PlanningTask) (settings : Settings) (P : Moment → Type 0) → P (opening task settings) → Keeps task settings P →
-    IsEnded task settings P (run task settings)
-ended task settings P start keep =
-    let end = at_run task settings (λ m. AreTraced task m × P m)
+pub ended : (task : PlanningTask) (settings : Settings) (tuples : ℕ) (P : Moment → Type 0) → P (opening task settings) → Keeps task settings tuples P →
+    IsEnded task settings tuples P (run task settings tuples)
+ended task settings tuples P start keep =
+    let end = at_run task settings tuples (λ m. AreTraced task m × P m)
     (λ m later node holds x.
     let there = first_there m.nodes node x.first in
     let after = next task settings m node holds.0.numbered there in

@@ -1,13 +1,14 @@
 -- What the plain search keeps, and the moments that it stands for: the moment's nodes are kept as they are, a link to its
 -- parent stands for each path, and where the watchers stand for the events.
-use Rattle.std.specs.Prelude.{◌≡◌, ◌+◌, ◌*◌, ◌<◌, ◌≤◌, ℕ, Bool, false, List, [], ◌∷◌, ◌++◌, length, drop, fold, slice_index_or, slice_set, Option, Some, None, IfSome, MatchOption}
+use Rattle.std.specs.Prelude.{◌≡◌, ◌+◌, ◌*◌, ◌<◌, ◌≤◌, ℕ, Bool, false, List, All, [], ◌∷◌, ◌++◌, length, map, drop, fold, slice_index_or, slice_set, Option, Some, None, IfSome, MatchOption}
 use Rattle.std.specs.List.{sum_by}
 use Rattle.std.specs.Option.{option_to_list}
 use Rattle.wp_task.specs.Task.{PlanningTask}
 use Rattle.wp_task.specs.Novelty.{Generated}
 use Rattle.wp_count.specs.declared.brood.Child.{Child}
 use Rattle.wp_count.specs.Broods.{children_of}
-use Rattle.wp_count.specs.Laws.{IsMarked, mark_of}
+use Rattle.wp_count.specs.Laws.{IsMarked, IsEvaluated, mark_of}
+use Rattle.wp_task.specs.declared.track.Mark.{Mark}
 use Rattle.wp_watch.specs.declared.event.Born.{Born}
 use Rattle.wp_watch.specs.declared.event.Event.{Event}
 use Rattle.wp_watch.specs.declared.watch.WatchKind.{WatchKind}
@@ -20,8 +21,8 @@ use Rattle.wp_plain.specs.declared.explored.Link.{Link}
 use Rattle.wp_plain.specs.declared.explored.Way.{Way}
 use Rattle.wp_plain.specs.declared.explored.Explored.{Explored}
 use Rattle.wp_plain.specs.Nodes.{Node, Path, Successor, path_at, extended, generated_in}
-use Rattle.wp_plain.specs.Pairs.{pairs_in}
-use Rattle.wp_plain.specs.Expansion.{node_of, born_of, event_of}
+use Rattle.wp_plain.specs.Pairs.{with_pair, pairs_in}
+use Rattle.wp_plain.specs.Expansion.{successors_of, unseen, path_counters, fresh_of, node_of, born_of, event_of}
 use Rattle.wp_plain.specs.Run.{Moment, Outcome, counts_of, opening, run, run_from}
 use Rattle.wp_plain.specs.Run.Outcome.{Goes, Ends}
 
@@ -95,6 +96,18 @@ numbered number c = record { number = number; counters = (c.g, c.r); state = c.s
 abbrev pub all_numbered : ℕ → List Child → List Generated
 all_numbered n [] = []
 all_numbered n (c ∷ cs) = numbered n c ∷ all_numbered (n + 1) cs
+
+-- evaluated children are the successors of their node; those that are no repeats, with the next numbers, are the nodes
+-- that an expansion generates, and their pairs are those that it adds
+pub record ChildrenAreNumbered : Type 0 where
+  pub successors : (task : PlanningTask) (state : List Bool) (mark : Mark) (track : List ℕ) →
+      map bare (children_of task state mark track) ≡ successors_of task.acts state
+  pub fresh : (seen : List (List Bool)) (children : List Child) →
+      unseen (λ x. x.state) seen (map bare children) ≡ map bare (unseen (λ c. c.state) seen children)
+  pub numbered : (task : PlanningTask) (states : List (List Bool)) (track : List ℕ) (n : ℕ) (children : List Child) →
+      All (IsEvaluated task states track) children → all_numbered n children ≡ fresh_of (path_counters task) states n (map bare children)
+  pub pairs : (nodes : List Generated) (n : ℕ) (children : List Child) →
+      fold with_pair (pairs_in nodes) (map child_pair children) ≡ pairs_in (nodes ++ all_numbered n children)
 
 abbrev pub next_node : Settings → List Node → Child → Node
 next_node settings nodes c = node_of settings (generated_in nodes) (numbered (length nodes) c)
@@ -207,15 +220,15 @@ EndsAs task settings watchers end later how = (paths : List Path) × (events : L
     × StandsFor task settings watchers later paths events × (end ≡ (how, moment_of later.explored paths events))
 
 -- all the steps from each moment that the search stands for
-abbrev pub RunsFrom : PlanningTask → Settings → Watched → Watched → How → Type 0
-RunsFrom task settings s later how = (watchers : List (WatchKind × Option ℕ)) (paths : List Path) (events : List Event) →
+abbrev pub RunsFrom : PlanningTask → Settings → ℕ → Watched → Watched → How → Type 0
+RunsFrom task settings tuples s later how = (watchers : List (WatchKind × Option ℕ)) (paths : List Path) (events : List Event) →
     StandsFor task settings watchers s paths events →
-    EndsAs task settings watchers (run_from task settings (settings.budget + 1) (moment_of s.explored paths events)) later how
+    EndsAs task settings watchers (run_from task settings tuples (settings.budget + 1) (moment_of s.explored paths events)) later how
 
 -- the whole run, told to whoever the watchers are that were told nothing
-abbrev pub RunsWhole : PlanningTask → Settings → List Place → Watched → How → Type 0
-RunsWhole task settings places later how = (watchers : List (WatchKind × Option ℕ)) → AreAfter watchers [] places →
-    EndsAs task settings watchers (run task settings) later how
+abbrev pub RunsWhole : PlanningTask → Settings → ℕ → List Place → Watched → How → Type 0
+RunsWhole task settings tuples places later how = (watchers : List (WatchKind × Option ℕ)) → AreAfter watchers [] places →
+    EndsAs task settings watchers (run task settings tuples) later how
 
 -- the counts are those of each moment that the search stands for
 abbrev pub AreCountsOf : Explored → Counts → Type 0

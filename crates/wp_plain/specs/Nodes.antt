@@ -10,6 +10,10 @@ pub record Node : Type 0 where
   pub kept : Bool
   pub waits : Bool
 
+-- the node, once it waits no longer
+abbrev pub left : Node → Node
+left node = record node { waits = false }
+
 -- how a node was reached: the actions from the root, and the states from the node back to the root
 pub record Path : Type 0 where
   pub acts : List ℕ

@@ -23,9 +23,11 @@ mod telling;
 pub use ending::{Counts, Ending, How};
 pub use first::first_is_least;
 pub use laws::{
-    emptied_has_no_plan, expansions_are_few, found_is_plan, limits_are_enough, limits_are_reached,
+    children_are_numbered, emptied_has_no_plan, endings_answer, expansions_are_few, found_is_plan,
+    limits_are_enough, limits_are_reached, nodes_are_numbered, numbers_are_small, steps_are_taken,
     tuples_are_counted,
 };
-pub use pairs::{exceeds, tuple_count};
+pub use pairs::{exceeds, pairs_are_listed, tuple_count};
+pub use repeats::repeats_are_left_out;
 pub use search::plain_search;
 pub use settings::{Search, Settings, keeps, workers_play_no_part};

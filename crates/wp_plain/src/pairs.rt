@@ -1,6 +1,6 @@
 //! The pairs of counters, and the words that they want.
 ghost use Rattle.std.specs.Prelude.{◌≡◌, ◌≤◌, ◌<◌, ◌^◌, map, fold, length, IfOk, OnOk};
-ghost use Rattle.wp_plain.specs.Pairs.{has_pair, with_pair, tuple_count, exceeds};
+ghost use Rattle.wp_plain.specs.Pairs.{has_pair, with_pair, tuple_count, exceeds, PairsAreListed};
 ghost use Rattle.wp_plain.specs.Explored.{child_pair};
 
 use std::alloc::{AllocError, Global};
@@ -35,6 +35,11 @@ fn has_pair(pairs: &[(u32, u32)], pair: (u32, u32)) -> bool
 {
     pairs.iter().any(|p| p.0 == pair.0 && p.1 == pair.1)
 }
+
+/// The pairs that are computed are those of the nodes, each once.
+pub fn pairs_are_listed()
+    ensures { PairsAreListed }
+{}
 
 /// How many sets of 1 to `width` atoms there are.
 pub fn tuple_count(width: u8, atoms: u32) -> u64

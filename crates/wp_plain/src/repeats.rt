@@ -4,7 +4,7 @@ ghost use Rattle.std.specs.List.{list_any};
 ghost use Rattle.std.specs.Bool.{beq};
 ghost use Rattle.std.specs.Cmp.Lexicographic.{pointwise};
 ghost use Rattle.wp_plain.specs.Nodes.{states_kept};
-ghost use Rattle.wp_plain.specs.Expansion.{unseen};
+ghost use Rattle.wp_plain.specs.Expansion.{unseen, RepeatsAreLeftOut};
 
 use crate::node::SearchNode;
 use std::alloc::{AllocError, Global};
@@ -53,3 +53,8 @@ fn is_child_state(children: &[Child], state: &State) -> bool
 {
     children.iter().any(|c| *state == c.state)
 }
+
+/// What is left out of a list of children are its repeats: those whose state is that of a kept node or of an earlier child.
+pub fn repeats_are_left_out()
+    ensures { RepeatsAreLeftOut }
+{}

@@ -5,6 +5,7 @@
 //! has to end as this does.
 ghost use Rattle.std.specs.Prelude.{◌≡◌, ◌<◌, ◌≤◌, [], ℕ, length, List, Option, Some, IfOk, OnOk};
 ghost use Rattle.wp_plain.specs.Nodes.{Path};
+ghost use Rattle.wp_plain.specs.Pairs.{all_tuples};
 ghost use Rattle.wp_plain.specs.Run.{opening, expand, look_at, step, run, ending_of};
 ghost use Rattle.wp_task.specs.Task.{IsTask};
 ghost use Rattle.wp_watch.specs.declared.watch.WatchKind.{WatchKind};
@@ -39,14 +40,15 @@ pub fn plain_search(
 ) -> Result<Ending, AllocError>
     requires range { AreInRange settings.now }
     requires untold { AreUntold (places_in kind until told watchers.old) }
-    ensures ending { IfOk result (λ ending. ending ≡ ending_of task.now settings.now) }
-    ensures answers { IfOk result (AnswersFor task.now settings.now) }
+    ensures ending { IfOk result (λ ending. ending ≡ ending_of task.now settings.now (all_tuples task.now settings.now)) }
+    ensures answers { IfOk result (AnswersFor task.now settings.now (all_tuples task.now settings.now)) }
     ensures events { OnOk result ((list : List (WatchKind × Option ℕ)) →
         AreAfter list [] (places_in kind until told watchers.old) →
-        AreAfter list (run task.now settings.now).1.events (places_in kind until told watchers.new)) }
+        AreAfter list (run task.now settings.now (all_tuples task.now settings.now)).1.events (places_in kind until told watchers.new)) }
 {
+    let tuples = tuple_count(settings.width, task.atoms());
     let mut explored = opening(alloc, task, settings)?;
-    let how = run(alloc, &mut explored, task, settings, watchers)?;
+    let how = run(alloc, &mut explored, task, settings, tuples, watchers)?;
     Ok(Ending {
         how,
         counts: counts_of(&explored),
@@ -88,19 +90,20 @@ fn run(
     explored: &mut Explored,
     task: &Task,
     settings: &Settings,
+    tuples: u64,
     watchers: &mut Watchers,
 ) -> Result<How, AllocError>
     requires range { AreInRange settings.now }
+    requires fits { IsTask task.now }
     requires nodes { explored.old.nodes.items ≡ (opening task.now settings.now).nodes }
     requires opens { Opens task.now settings.now explored.old }
     requires untold { AreUntold (places_in kind until told watchers.old) }
-    ensures ends { IfOk result (RunsWhole task.now settings.now (places_in kind until told watchers.old) (watched explored.new (places_in kind until told watchers.new))) }
-    ensures fits { IsTask task.now }
+    ensures { IfOk result (RunsWhole task.now settings.now tuples (places_in kind until told watchers.old) (watched explored.new (places_in kind until told watchers.new))) }
 {
-    if exceeds(settings.words, 1, tuple_count(settings.width, task.atoms())) {
+    if exceeds(settings.words, 1, tuples) {
         return Ok(How::Words { pairs: 1 });
     }
-    take_steps(alloc, explored, task, settings, watchers)
+    take_steps(alloc, explored, task, settings, tuples, watchers)
 }
 
 /// Steps until one ends, which is at the latest the one after the budget.
@@ -109,14 +112,16 @@ fn take_steps(
     explored: &mut Explored,
     task: &Task,
     settings: &Settings,
+    tuples: u64,
     watchers: &mut Watchers,
 ) -> Result<How, AllocError>
     requires range { AreInRange settings.now }
+    requires fits { IsTask task.now }
     requires stands { StandsForSome task.now settings.now (watched explored.old (places_in kind until told watchers.old)) }
-    ensures { IfOk result (RunsFrom task.now settings.now (watched explored.old (places_in kind until told watchers.old)) (watched explored.new (places_in kind until told watchers.new))) }
+    ensures { IfOk result (RunsFrom task.now settings.now tuples (watched explored.old (places_in kind until told watchers.old)) (watched explored.new (places_in kind until told watchers.new))) }
 {
     for _step in 0..settings.budget + 1 {
-        if let Some(how) = step(alloc, explored, task, settings, watchers)? {
+        if let Some(how) = step(alloc, explored, task, settings, tuples, watchers)? {
             return Ok(how);
         }
     }
@@ -129,14 +134,16 @@ fn step(
     explored: &mut Explored,
     task: &Task,
     settings: &Settings,
+    tuples: u64,
     watchers: &mut Watchers,
 ) -> Result<Option<How>, AllocError>
     requires range { AreInRange settings.now }
+    requires fits { IsTask task.now }
     requires stands { StandsForSome task.now settings.now (watched explored.old (places_in kind until told watchers.old)) }
-    ensures { IfOk result (StepsFrom task.now settings.now (step task.now settings.now) (watched explored.old (places_in kind until told watchers.old)) (watched explored.new (places_in kind until told watchers.new))) }
+    ensures { IfOk result (StepsFrom task.now settings.now (step task.now settings.now tuples) (watched explored.old (places_in kind until told watchers.old)) (watched explored.new (places_in kind until told watchers.new))) }
 {
     match first_waiting(&explored.nodes) {
-        Some(place) => look_at(alloc, explored, task, settings, place, watchers),
+        Some(place) => look_at(alloc, explored, task, settings, tuples, place, watchers),
         None => Ok(Some(How::Emptied)),
     }
 }
@@ -148,13 +155,15 @@ fn look_at(
     explored: &mut Explored,
     task: &Task,
     settings: &Settings,
+    tuples: u64,
     place: usize,
     watchers: &mut Watchers,
 ) -> Result<Option<How>, AllocError>
     requires range { AreInRange settings.now }
+    requires fits { IsTask task.now }
     requires place { place < length explored.old.nodes.items }
     requires stands { StandsForSome task.now settings.now (watched explored.old (places_in kind until told watchers.old)) }
-    ensures { IfOk result (StepsFrom task.now settings.now (λ m. look_at task.now settings.now m (Some (node_at m.nodes place))) (watched explored.old (places_in kind until told watchers.old)) (watched explored.new (places_in kind until told watchers.new))) }
+    ensures { IfOk result (StepsFrom task.now settings.now (λ m. look_at task.now settings.now tuples m (Some (node_at m.nodes place))) (watched explored.old (places_in kind until told watchers.old)) (watched explored.new (places_in kind until told watchers.new))) }
 {
     if explored.nodes[place].has_goals() {
         let plan = plan_to(alloc, explored, place)?;
@@ -163,7 +172,7 @@ fn look_at(
     if explored.expanded == settings.budget {
         return Ok(Some(How::Budget));
     }
-    expand(alloc, explored, task, settings, place, watchers)
+    expand(alloc, explored, task, settings, tuples, place, watchers)
 }
 
 /// The expansion of the node at a place, unless it wants more words than the limit.
@@ -172,14 +181,16 @@ fn expand(
     explored: &mut Explored,
     task: &Task,
     settings: &Settings,
+    tuples: u64,
     place: usize,
     watchers: &mut Watchers,
 ) -> Result<Option<How>, AllocError>
     requires range { AreInRange settings.now }
+    requires fits { IsTask task.now }
     requires place { place < length explored.old.nodes.items }
     requires spare { explored.old.expanded < settings.now.budget }
     requires stands { StandsForSome task.now settings.now (watched explored.old (places_in kind until told watchers.old)) }
-    ensures { IfOk result (StepsFrom task.now settings.now (λ m. expand task.now settings.now m (node_at m.nodes place)) (watched explored.old (places_in kind until told watchers.old)) (watched explored.new (places_in kind until told watchers.new))) }
+    ensures { IfOk result (StepsFrom task.now settings.now (λ m. expand task.now settings.now tuples m (node_at m.nodes place)) (watched explored.old (places_in kind until told watchers.old)) (watched explored.new (places_in kind until told watchers.new))) }
 {
     // By the law of the counters those of the children are those of their whole paths; by the law of places the watchers
     // can be told one more event.
@@ -191,7 +202,6 @@ fn expand(
     let repeats = (count - fresh.len()) as u64;
     let pairs = more_pairs(alloc, &explored.pairs, &fresh)?;
     let needed = pairs.len() as u64;
-    let tuples = tuple_count(settings.width, task.atoms());
     if exceeds(settings.words, needed, tuples) {
         return Ok(Some(How::Words { pairs: needed }));
     }

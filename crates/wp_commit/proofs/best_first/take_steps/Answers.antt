@@ -1,28 +1,39 @@
 use Rattle.std.proofs.Common.{◌≡◌, ◌+◌, ◌-◌, ℕ, suc, sym, ap, ◌∙◌, subst, arith}
 use Rattle.wp_watch.specs.Places.{AreAfter}
 use Rattle.wp_plain.specs.Places.{places_in}
+use Rattle.wp_plain.specs.Pairs.{all_tuples}
 use Rattle.wp_plain.specs.Run.{step, run_from}
 use Rattle.wp_plain.proofs.RunLemmas.{run_from-goes, run_from-ends}
-use Rattle.wp_commit.specs.Searched.{StepsFrom}
+use Rattle.wp_commit.specs.Asked.{Asked}
+use Rattle.wp_commit.specs.Searched.{progress, StandsAtSome, StepsFrom}
 use Rattle.wp_commit.proofs.best_first.take_steps.Goals as goal
 
-pub returns-in-Some : goal.returns-in-Some
-returns-in-Some g c m stands =
+pub step-requires : goal.step-requires
+step-requires g c =
     let places = λ (w : _).
     places_in (λ (z : _). (goal.Watch-dyn g z).kind z.1) (λ (z : _). (goal.Watch-dyn g z).until z.1) (λ (z : _). (goal.Watch-dyn g z).told z.1) w in
-    let task = c.args.task.now in
-    let settings = c.args.settings.now in
-    let before = places c.loop-step.watchers in
-    let told = places c.step.new.watchers in
+    record {
+      stands = subst (λ (a : Asked). StandsAtSome a.task a.settings (progress c.loop-step.searched c.loop-step.tables (places c.loop-step.watchers)))
+          (sym c.loop-step.invariant.same) c.loop-step.invariant.stands;
+    }
+
+pub returns-in-Some-clause-runs : goal.returns-in-Some-clause-runs
+returns-in-Some-clause-runs g c m stands =
+    let places = λ (w : _).
+    places_in (λ (z : _). (goal.Watch-dyn g z).kind z.1) (λ (z : _). (goal.Watch-dyn g z).until z.1) (λ (z : _). (goal.Watch-dyn g z).told z.1) w in
+    let task = c.args.run.now.task in
+    let settings = c.args.run.now.settings in
+    let before = progress c.loop-step.searched c.loop-step.tables (places c.loop-step.watchers) in
+    let later = progress c.step.new.searched c.step.new.tables (places c.step.new.watchers) in
     let now = c.loop-step.invariant.ran m stands in
-    let went =
-    subst (λ how. StepsFrom task settings (step task settings) c.loop-step.searched c.loop-step.tables before c.step.new.searched c.step.new.tables told how)
-    c.in-Some.is c.in_ok-how.ensures now.0 now.1 in
-    let left : suc (settings.budget - c.loop-step._step) ≡ (settings.budget + 1) - c.loop-step._step = omega arith in (
+    let steps = subst (λ (a : Asked). StepsFrom a.task a.settings (step a.task a.settings (all_tuples a.task a.settings)) before later c.in_ok-how.field-0) c.loop-step.invariant.same c.in_ok-how.ensures.steps in
+    let went = subst (λ how. StepsFrom task settings (step task settings (all_tuples task settings)) before later how) c.in-Some.is steps now.0 now.1 in
+    let bound = ap (λ (a : Asked). a.settings.budget) c.run.view_is in
+    let left : suc (settings.budget - c.loop-step._step) ≡ (settings.budget + 1) - c.loop-step._step = omega (arith, bound) in (
       now.0,
       went.0,
-      sym (ap (λ (n : ℕ). run_from task settings n now.0) left ∙ now.2)
-          ∙ run_from-ends task settings (settings.budget - c.loop-step._step) now.0 c.in-Some.how went.1,
+      sym (ap (λ (n : ℕ). run_from task settings (all_tuples task settings) n now.0) left ∙ now.2)
+          ∙ run_from-ends task settings (all_tuples task settings) (settings.budget - c.loop-step._step) now.0 c.in-Some.how went.1,
       λ list after. subst (AreAfter list now.0.events) (sym went.2) (now.3 list after),
     )
 
@@ -30,35 +41,37 @@ pub loop-step-preserved : goal.loop-step-preserved
 loop-step-preserved g c =
     let places = λ (w : _).
     places_in (λ (z : _). (goal.Watch-dyn g z).kind z.1) (λ (z : _). (goal.Watch-dyn g z).until z.1) (λ (z : _). (goal.Watch-dyn g z).told z.1) w in
-    let task = c.args.task.now in
-    let settings = c.args.settings.now in
-    let before = places c.loop-step.watchers in
-    let told = places c.step.new.watchers in
-    let goes =
-    subst (λ how. StepsFrom task settings (step task settings) c.loop-step.searched c.loop-step.tables before c.step.new.searched c.step.new.tables told how)
-    c.in_default.is c.in_ok-how.ensures in
+    let task = c.args.run.now.task in
+    let settings = c.args.run.now.settings in
+    let before = progress c.loop-step.searched c.loop-step.tables (places c.loop-step.watchers) in
+    let later = progress c.step.new.searched c.step.new.tables (places c.step.new.watchers) in
+    let steps = subst (λ (a : Asked). StepsFrom a.task a.settings (step a.task a.settings (all_tuples a.task a.settings)) before later c.in_ok-how.field-0) c.loop-step.invariant.same c.in_ok-how.ensures.steps in
+    let goes = subst (λ how. StepsFrom task settings (step task settings (all_tuples task settings)) before later how) c.in_default.is steps in
     let any = c.loop-step.invariant.stands in
     let first = goes any.0 any.1 in
-    let left : suc (settings.budget - c.loop-step._step) ≡ (settings.budget + 1) - c.loop-step._step = omega arith in
+    let bound = ap (λ (a : Asked). a.settings.budget) c.run.view_is in
+    let left : suc (settings.budget - c.loop-step._step) ≡ (settings.budget + 1) - c.loop-step._step = omega (arith, bound) in
     let rest : (settings.budget + 1) - (c.loop-step._step + 1) ≡ settings.budget - c.loop-step._step = omega arith in
     record {
+      same = c.in_ok-how.ensures.same ∙ c.loop-step.invariant.same;
       stands = (first.0, first.1, (any.2.0, first.3 any.2.0 any.2.1));
       ran = λ m stands.
           let now = c.loop-step.invariant.ran m stands in
           let went = goes now.0 now.1 in (
             went.0,
             went.1,
-            ap (λ (n : ℕ). run_from task settings n went.0) rest
-                ∙ (sym (run_from-goes task settings (settings.budget - c.loop-step._step) now.0 went.0 went.2)
-                ∙ (ap (λ (n : ℕ). run_from task settings n now.0) left ∙ now.2)),
+            ap (λ (n : ℕ). run_from task settings (all_tuples task settings) n went.0) rest
+                ∙ (sym (run_from-goes task settings (all_tuples task settings) (settings.budget - c.loop-step._step) now.0 went.0 went.2)
+                ∙ (ap (λ (n : ℕ). run_from task settings (all_tuples task settings) n now.0) left ∙ now.2)),
             λ list after. went.3 list (now.3 list after),
           );
     }
 
-pub returns : goal.returns
-returns g c m stands =
-    let task = c.args.task.now in
-    let settings = c.args.settings.now in
+pub returns-clause-runs : goal.returns-clause-runs
+returns-clause-runs g c m stands =
+    let task = c.args.run.now.task in
+    let settings = c.args.run.now.settings in
     let now = c.loop-step.invariant.ran m stands in
-    let none : (settings.budget + 1) - c.loop-step._step ≡ 0 = omega arith in
-    (now.0, now.1.holds, sym now.2 ∙ ap (λ (n : ℕ). run_from task settings n now.0) none, now.3)
+    let bound = ap (λ (a : Asked). a.settings.budget) c.run.view_is in
+    let none : (settings.budget + 1) - c.loop-step._step ≡ 0 = omega (arith, bound) in
+    (now.0, now.1.holds, sym now.2 ∙ ap (λ (n : ℕ). run_from task settings (all_tuples task settings) n now.0) none, now.3)

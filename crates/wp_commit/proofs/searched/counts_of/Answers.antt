@@ -15,8 +15,8 @@ overflow_sub-result c =
 
 pub returns : goal.returns
 returns c m holds =
-    let task = c.args.task.now in
-    let settings = c.args.settings.now in
+    let task = c.args.run.now.task in
+    let settings = c.args.run.now.settings in
     let s = c.args.searched.now in
     let tables = c.args.tables.now in
     let kept : s.kept ≡ count_by (λ n. n.kept) m.nodes = holds.counts.kept ∙ kept-count s.nodes.kept m.nodes holds.nodes.nodes_are in

@@ -2,7 +2,7 @@ use Rattle.std.proofs.Common.{◌++◌, map, sym, ap, ◌∙◌}
 use Rattle.std.specs.Vec.Iter.{into_iter_items}
 use Rattle.wp_plain.specs.Nodes.{states_kept}
 use Rattle.wp_plain.specs.Expansion.{unseen}
-use Rattle.wp_plain.proofs.ListLemmas.{unseen-next}
+use Rattle.wp_plain.proofs.UnseenLemmas.{unseen-next}
 use Rattle.wp_plain.proofs.repeats.unseen.Goals as goal
 
 pub loop-child-preserved : goal.loop-child-preserved

@@ -2,11 +2,11 @@ use Rattle.std.proofs.Common.{◌≡◌, ◌-◌, ℕ, true, false, length, map,
 use Rattle.std.specs.List.{fold}
 use Rattle.wp_plain.specs.declared.ending.How.TheVariants.{Words}
 use Rattle.wp_plain.specs.Nodes.{states_kept}
-use Rattle.wp_plain.specs.Pairs.{with_pair, tuple_count, exceeds}
+use Rattle.wp_plain.specs.Pairs.{with_pair, exceeds}
 use Rattle.wp_plain.specs.Expansion.{unseen}
 use Rattle.wp_plain.specs.Run.Outcome.{Ends}
 use Rattle.wp_plain.specs.Explored.{child_pair, brood_at, lists_of}
-use Rattle.wp_plain.proofs.ChildLemmas.{unseen-few}
+use Rattle.wp_plain.proofs.UnseenLemmas.{unseen-few}
 use Rattle.wp_plain.proofs.ExpandLemmas.{IsBrood, IsCommitted, expand-words, expand-goes, can-tell}
 use Rattle.wp_plain.proofs.search.expand.Goals as goal
 
@@ -31,11 +31,11 @@ returns-then-exceeds g c list paths events stands =
       unseen_is = c.in_ok-fresh.ensures ∙ (λ j. unseen (λ x. x.state) (states_kept (c.deref.ensures.value j)) (c.in_ok-brood.ensures.value j));
       pairs_is = c.in_ok-pairs.ensures ∙ (λ j. fold with_pair (c.deref-2.ensures.value j) (map child_pair (c.deref-3.ensures.value j)));
     } in
-    let tuples : c.tuple_count-tuples.result ≡ tuple_count settings.width task.atoms = c.tuple_count-tuples.ensures.value ∙ ap (tuple_count settings.width) c.atoms.ensures.value in
+    let tuples = c.args.tuples in
     let needed : c.len-needed.result ≡ length pairs = search rules in
-    let many : exceeds settings.words (length pairs) (tuple_count settings.width task.atoms) ≡ true =
-    (λ j. exceeds settings.words (sym needed j) (sym tuples j)) ∙ (sym c.exceeds.ensures ∙ c.if-exceeds.true) in
-    (refl, expand-words task settings list e _ paths events c.args.place fresh pairs stands brood many ∙ ap (λ (n : ℕ). Ends (Words n)) (sym needed))
+    let many : exceeds settings.words (length pairs) tuples ≡ true =
+    ap (λ (n : ℕ). exceeds settings.words n tuples) (sym needed) ∙ (sym c.exceeds.ensures ∙ c.if-exceeds.true) in
+    (refl, expand-words task settings tuples list e _ paths events c.args.place fresh pairs stands brood many ∙ ap (λ (n : ℕ). Ends (Words n)) (sym needed))
 
 pub returns : goal.returns
 returns g c list paths events stands =
@@ -50,16 +50,16 @@ returns g c list paths events stands =
       unseen_is = c.in_ok-fresh.ensures ∙ (λ j. unseen (λ x. x.state) (states_kept (c.deref.ensures.value j)) (c.in_ok-brood.ensures.value j));
       pairs_is = c.in_ok-pairs.ensures ∙ (λ j. fold with_pair (c.deref-2.ensures.value j) (map child_pair (c.deref-3.ensures.value j)));
     } in
-    let tuples : c.tuple_count-tuples.result ≡ tuple_count settings.width task.atoms = c.tuple_count-tuples.ensures.value ∙ ap (tuple_count settings.width) c.atoms.ensures.value in
+    let tuples = c.args.tuples in
     let needed : c.len-needed.result ≡ length pairs = search rules in
-    let few : exceeds settings.words (length pairs) (tuple_count settings.width task.atoms) ≡ false =
-    (λ j. exceeds settings.words (sym needed j) (sym tuples j)) ∙ (sym c.exceeds.ensures ∙ c.if-exceeds.false) in
+    let few : exceeds settings.words (length pairs) tuples ≡ false =
+    ap (λ (n : ℕ). exceeds settings.words n tuples) (sym needed) ∙ (sym c.exceeds.ensures ∙ c.if-exceeds.false) in
     let all : c.len-count.result ≡ length (brood_at task (lists_of e) c.args.place) =
     (let counted : c.len-count.result ≡ length c.in_ok-brood.brood.items = search rules in counted) ∙ ap length c.in_ok-brood.ensures.value in
     let rest : c.len.result ≡ length fresh = search rules in
     let committed : IsCommitted task settings e c.commit.new.explored c.args.place fresh _ _ _ = record {
       spare = c.requires.spare;
-      small = omega (arith, ap length c.in_ok-brood.ensures.value, c.in_ok-brood.ensures.few, c.atoms.ensures.fits.few_acts);
+      small = omega (arith, ap length c.in_ok-brood.ensures.value, c.in_ok-brood.ensures.few, c.requires.fits.few_acts);
       lists = c.in_ok-commit.ensures.lists;
       expansions = c.in_ok-commit.ensures.expanded;
       counted = λ j. all j - rest j;
@@ -67,7 +67,7 @@ returns g c list paths events stands =
       law = c.places_follow.ensures.more;
       told = c.in_ok-commit.ensures.told;
     } in
-    expand-goes task settings list e _ paths events c.args.place fresh pairs stands brood c.commit.new.explored _ _ committed (ap (λ v. v.items) c.in_ok-commit.ensures.pairs) few
+    expand-goes task settings tuples list e _ paths events c.args.place fresh pairs stands brood c.commit.new.explored _ _ committed (ap (λ v. v.items) c.in_ok-commit.ensures.pairs) few
 
 pub commit-requires-clause-can : goal.commit-requires-clause-can
 commit-requires-clause-can g c =
@@ -86,7 +86,7 @@ commit-requires-clause-can g c =
     let all : c.len-count.result ≡ length (brood_at task (lists_of e) c.args.place) =
     (let counted : c.len-count.result ≡ length c.in_ok-brood.brood.items = search rules in counted) ∙ ap length c.in_ok-brood.ensures.value in
     let rest : c.len.result ≡ length fresh = search rules in
-    can-tell task settings any.0 e _ any.1 any.2 c.args.place fresh pairs any.3 brood c.places_follow.ensures.can
+    can-tell task settings c.args.tuples any.0 e _ any.1 any.2 c.args.place fresh pairs any.3 brood c.places_follow.ensures.can
     c.requires.range.budget.1 c.requires.spare
-    (omega (arith, ap length c.in_ok-brood.ensures.value, c.in_ok-brood.ensures.few, c.atoms.ensures.fits.few_acts))
+    (omega (arith, ap length c.in_ok-brood.ensures.value, c.in_ok-brood.ensures.few, c.requires.fits.few_acts))
     _ (λ j. all j - rest j)

@@ -18,7 +18,7 @@ returns-then-has_goals g c list paths events stands =
     let met : (node.generated.counters.0 == 0) ≡ true =
     ap (λ (n : Node). n.generated.counters.0 == 0) (sym read) ∙ (sym c.has_goals.ensures ∙ c.if-has_goals.true) in (
       refl,
-      look_at-found c.args.task.now c.args.settings.now (moment_of e paths events) node c.in_ok-plan.plan met
+      look_at-found c.args.task.now c.args.settings.now c.args.tuples (moment_of e paths events) node c.in_ok-plan.plan met
           (c.in_ok-plan.ensures c.args.task.now paths stands.reached ∙ ap (λ (k : ℕ). (path_at paths k).acts) (sym (stands.reached.each place c.requires.place).numbered)),
     )
 
@@ -29,6 +29,7 @@ returns g c =
     let told = λ (z : _). (goal.Watch-dyn g z).told z.1 in
     let task = c.args.task.now in
     let settings = c.args.settings.now in
+    let tuples = c.args.tuples in
     let e = c.args.explored.now in
     let place = c.args.place in
     let node = node_at e.nodes.items place in
@@ -38,9 +39,9 @@ returns g c =
     let unmet : (node.generated.counters.0 == 0) ≡ false =
     ap (λ (n : Node). n.generated.counters.0 == 0) (sym read) ∙ (sym c.has_goals.ensures ∙ c.if-has_goals.false) in
     IfOk-weaker c.expand.result
-    (λ how. StepsFrom task settings (λ m. expand task settings m (node_at m.nodes place)) s later how)
-    (λ how. StepsFrom task settings (λ m. look_at task settings m (Some (node_at m.nodes place))) s later how)
-    (λ how. steps-from_same task settings (λ m. look_at task settings m (Some (node_at m.nodes place))) (λ m. expand task settings m (node_at m.nodes place)) s later how
-    (λ list paths events stands. look_at-expands task settings (moment_of e paths events) node unmet
+    (λ how. StepsFrom task settings (λ m. expand task settings tuples m (node_at m.nodes place)) s later how)
+    (λ how. StepsFrom task settings (λ m. look_at task settings tuples m (Some (node_at m.nodes place))) s later how)
+    (λ how. steps-from_same task settings tuples (λ m. look_at task settings tuples m (Some (node_at m.nodes place))) (λ m. expand task settings tuples m (node_at m.nodes place)) s later how
+    (λ list paths events stands. look_at-expands task settings tuples (moment_of e paths events) node unmet
     (ne_eqb (length events) settings.budget (λ same. c.if-explored-settings.false (stands.expanded ∙ same)))))
     c.expand.ensures

@@ -6,7 +6,7 @@ use Rattle.wp_count.specs.Broods.{root_mark}
 use Rattle.wp_count.specs.Laws.{IsMarked}
 use Rattle.wp_plain.specs.Nodes.{generated_in}
 use Rattle.wp_plain.specs.declared.explored.Way.{Way}
-use Rattle.wp_plain.specs.Expansion.{generated_at, root_of}
+use Rattle.wp_plain.specs.Expansion.{path_counters, generated_at, root_of}
 use Rattle.wp_plain.proofs.OpeningLemmas.{root-generated, root-node, opening-stands}
 use Rattle.wp_plain.proofs.search.opening.Goals as goal
 
@@ -18,7 +18,7 @@ returns-clause-nodes c =
     let root = c.in_ok-state.ensures.value in
     let marked : IsMarked task task.init [] (root_mark task) (relaxed_atoms_of task.acts task.goals task.init) =
     subst (λ (r : List Bool × Mark × List ℕ). IsMarked task r.0 [] r.1 r.2) root c.in_ok-state.ensures.marked in
-    let x_is : c.of-generated.result ≡ generated_at task [] 0 task.init =
+    let x_is : c.of-generated.result ≡ generated_at (path_counters task) [] 0 task.init =
     c.of-generated.ensures
     ∙ root-generated task settings law.counters marked c.in_ok-state.state c.in_ok-state.mark (ap (λ parts. parts.0) root) (ap (λ parts. parts.1) root) in
     let w_is : c.in_ok-w.w ≡ novelty_of settings.width [] c.of-generated.result =

@@ -1,42 +1,42 @@
-use Rattle.std.proofs.Common.{◌≡◌, [], true, false, sym, ap, ◌∙◌}
+use Rattle.std.proofs.Common.{◌≡◌, [], true, false, sym, ◌∙◌}
 use Rattle.std.proofs.lemmas.Result.{IfOk-weaker}
 use Rattle.wp_plain.specs.Places.{places_in}
 use Rattle.wp_plain.specs.declared.ending.How.{How}
-use Rattle.wp_plain.specs.Pairs.{tuple_count, exceeds}
+use Rattle.wp_plain.specs.Pairs.{exceeds}
 use Rattle.wp_plain.specs.Run.{opening}
 use Rattle.wp_plain.specs.Explored.{watched, RunsFrom, RunsWhole}
 use Rattle.wp_plain.proofs.RunLemmas.{run-goes, run-words}
 use Rattle.wp_plain.proofs.search.run.Goals as goal
 
-pub returns-clause-ends : goal.returns-clause-ends
-returns-clause-ends g c =
+pub returns : goal.returns
+returns g c =
     let kind = λ (z : _). (goal.Watch-dyn g z).kind z.1 in
     let until = λ (z : _). (goal.Watch-dyn g z).until z.1 in
     let told = λ (z : _). (goal.Watch-dyn g z).told z.1 in
     let task = c.args.task.now in
     let settings = c.args.settings.now in
+    let tuples = c.args.tuples in
     let e = c.args.explored.now in
     let before = places_in kind until told c.args.watchers.now in
     let later = watched c.take_steps.new.explored (places_in kind until told c.take_steps.new.watchers) in
-    let few : exceeds settings.words 1 (tuple_count settings.width task.atoms) ≡ false =
-    ap (exceeds settings.words 1) (sym (c.tuple_count.ensures.value ∙ ap (tuple_count settings.width) c.atoms.ensures.value))
-    ∙ (sym c.exceeds.ensures ∙ c.if-exceeds.false) in
+    let few : exceeds settings.words 1 tuples ≡ false =
+    sym c.exceeds.ensures ∙ c.if-exceeds.false in
     IfOk-weaker c.take_steps.result
-    (λ (how : How). RunsFrom task settings (watched e before) later how)
-    (λ (how : How). RunsWhole task settings before later how)
+    (λ (how : How). RunsFrom task settings tuples (watched e before) later how)
+    (λ (how : How). RunsWhole task settings tuples before later how)
     (λ how runs list untold.
     let end = runs list (opening task settings).paths [] (c.requires.opens list before untold) in
-    (end.0, end.1, end.2, run-goes task settings e few c.requires.nodes ∙ end.3))
+    (end.0, end.1, end.2, run-goes task settings tuples e few c.requires.nodes ∙ end.3))
     c.take_steps.ensures
 
-pub returns-then-exceeds-clause-ends : goal.returns-then-exceeds-clause-ends
-returns-then-exceeds-clause-ends g c list untold =
+pub returns-then-exceeds : goal.returns-then-exceeds
+returns-then-exceeds g c list untold =
     let task = c.args.task.now in
     let settings = c.args.settings.now in
-    let many : exceeds settings.words 1 (tuple_count settings.width task.atoms) ≡ true =
-    ap (exceeds settings.words 1) (sym (c.tuple_count.ensures.value ∙ ap (tuple_count settings.width) c.atoms.ensures.value))
-    ∙ (sym c.exceeds.ensures ∙ c.if-exceeds.true) in
-    ((opening task settings).paths, [], c.requires.opens list _ untold, run-words task settings c.args.explored.now many c.requires.nodes)
+    let tuples = c.args.tuples in
+    let many : exceeds settings.words 1 tuples ≡ true =
+    sym c.exceeds.ensures ∙ c.if-exceeds.true in
+    ((opening task settings).paths, [], c.requires.opens list _ untold, run-words task settings tuples c.args.explored.now many c.requires.nodes)
 
 pub take_steps-requires-clause-stands : goal.take_steps-requires-clause-stands
 take_steps-requires-clause-stands g c =

@@ -18,5 +18,5 @@ invariant-loop-step g l =
       stands : StandsForSome l.task l.settings now;
       ran : (list : List (WatchKind × Option ℕ)) (paths : List Path) (events : List Event) → StandsFor l.task l.settings list first paths events →
           (last : List Path) × (told : List Event) × StandsFor l.task l.settings list now last told
-          × (run_from l.task l.settings ((l.settings.budget + 1) - l._step) (moment_of l.explored last told) ≡ run_from l.task l.settings (l.settings.budget + 1) (moment_of l.fn.explored paths events));
+          × (run_from l.task l.settings l.tuples ((l.settings.budget + 1) - l._step) (moment_of l.explored last told) ≡ run_from l.task l.settings l.tuples (l.settings.budget + 1) (moment_of l.fn.explored paths events));
     }

@@ -1,0 +1,75 @@
+-- An expansion as it is evaluated: the successors of the node in hand that are no repeats, with their counters.
+use Rattle.std.specs.Prelude.{◌≡◌, ◌+◌, ◌^◌, ◌<◌, ◌≤◌, ℕ, Bool, List, ◌++◌, length, map, fold, Contains, Some}
+use Rattle.std.specs.Map.{keys_of}
+use Rattle.wp_task.specs.declared.acts.Act.{Act}
+use Rattle.wp_task.specs.Task.{PlanningTask, act_at, result_of}
+use Rattle.wp_count.specs.declared.brood.Child.{Child}
+use Rattle.wp_count.specs.Broods.{children_of}
+use Rattle.wp_novel.specs.NoveltyTables.{NoveltyTables}
+use Rattle.wp_novel.specs.StandsFor.{StandsFor}
+use Rattle.wp_nodes.specs.declared.kept.Kept.{Kept}
+use Rattle.wp_nodes.specs.KeptNodes.{Keeping, node_of, IsKept, AreLinked}
+use Rattle.wp_plain.specs.declared.settings.Settings.{Settings}
+use Rattle.wp_plain.specs.Nodes.{Node, Successor, generated_in}
+use Rattle.wp_plain.specs.Pairs.{with_pair}
+use Rattle.wp_plain.specs.Expansion.{unseen}
+use Rattle.wp_plain.specs.Explored.{all_numbered, child_pair, track_at}
+use Rattle.wp_plain.specs.Run.{Moment}
+use Rattle.wp_commit.specs.declared.births.Numbered.{Numbered}
+use Rattle.wp_commit.specs.declared.evaluation.Expansion.{Expansion}
+use Rattle.wp_commit.specs.declared.searched.Searched.{Searched}
+use Rattle.wp_commit.specs.Newborns.{birth_of, counters_of, newborns_of, AreNew, AreUnopened}
+use Rattle.wp_commit.specs.Searched.{IsTakenAt}
+
+abbrev pub states_of : List Kept → List (List Bool)
+states_of kept = map (λ k. k.state) kept
+
+-- the successors that some actions lead to
+abbrev pub successors_by : List Act → List Bool → List ℕ → List Successor
+successors_by acts state numbers = map (λ a. record { act = a; state = result_of (act_at acts a) state }) numbers
+
+-- the children of a kept node, repeats among them
+abbrev pub brood_of : PlanningTask → Keeping → Kept → List Child
+brood_of task nodes k = children_of task k.state k.mark (track_at nodes.tracks k.mark.track)
+
+-- the children of the kept node of the number that are no repeats, how many are, and the pairs of counters that are to be opened
+pub record IsExpansionOf (task : PlanningTask) (s : Searched) (tables : NoveltyTables) (number : ℕ) (x : Expansion) : Type 0 where
+  pub node : Kept
+  pub found : node_of s.nodes.kept number ≡ Some node
+  pub there : Contains s.nodes.kept node
+  pub named : node.number ≡ number
+  pub tracked : node.mark.track < length s.nodes.tracks
+  pub linked : AreLinked s.nodes
+  pub unseen_are : x.fresh.items ≡ unseen (λ c. c.state) (states_of s.nodes.kept) (brood_of task s.nodes node)
+  pub repeats_are : x.repeats + length x.fresh.items ≡ length (brood_of task s.nodes node)
+  pub few : length (brood_of task s.nodes node) ≤ length task.acts
+  pub pairs_are : map counters_of (keys_of tables.tables ++ x.pairs.items)
+      ≡ fold with_pair (map counters_of (keys_of tables.tables)) (map child_pair x.fresh.items)
+  pub unopened : AreUnopened tables.tables x.pairs.items
+
+-- ---- numbers and novelties
+-- the children have the next numbers, and their novelties among all nodes; the tables stand for all of them, and have the pairs
+pub record IsEnteredAt (settings : Settings) (tables : NoveltyTables) (x : Expansion) (words : NoveltyTables) (m : Moment) (numbered : Numbered) : Type 0 where
+  pub newborns : numbered.newborns.items
+      ≡ newborns_of settings.width (generated_in m.nodes ++ all_numbered (length m.nodes) x.fresh.items) (length m.nodes) x.fresh.items
+  pub repeats : numbered.repeats ≡ x.repeats
+  pub births : StandsFor words (map birth_of (generated_in m.nodes ++ all_numbered (length m.nodes) x.fresh.items))
+  pub keys : keys_of words.tables ≡ keys_of tables.tables ++ x.pairs.items
+  pub index : words.index ≡ tables.index
+  pub limit : words.limit ≡ tables.limit
+
+-- the same, at each moment at which the node was taken
+abbrev pub IsEnteredOf : PlanningTask → Settings → Searched → NoveltyTables → ℕ → Expansion → NoveltyTables → Numbered → Type 0
+IsEnteredOf task settings s tables number x words numbered = (m : Moment) (node : Node) →
+    IsTakenAt task settings s tables m node number → IsEnteredAt settings tables x words m numbered
+
+-- ---- what is kept
+-- the newborns can be kept as children of the node, and counted
+pub record CanKeep (s : Searched) (parent track : ℕ) (numbered : Numbered) : Type 0 where
+  pub new : AreNew s.nodes.kept numbered.newborns.items
+  pub is_kept : IsKept s.nodes.kept parent
+  pub tracked : track < length s.nodes.tracks
+  pub few : s.kept ≤ s.numbered
+  pub few_numbers : s.numbered + length numbered.newborns.items < 2 ^ 63
+  pub few_expansions : s.expanded + 1 < 2 ^ 63
+  pub few_repeats : s.repeats + numbered.repeats < 2 ^ 63

@@ -1,0 +1,54 @@
+//! What a run needs throughout.
+ghost use Rattle.std.specs.Prelude.{◌≡◌, IfOk};
+ghost use Rattle.wp_plain.specs.Ranges.{AreInRange};
+
+use std::alloc::{AllocError, Global};
+use std::marker::Model;
+use wp_plain::Settings;
+use wp_relax::Workspace;
+use wp_succ::Plain;
+use wp_task::Task;
+
+/// What a run needs throughout, made once: callers see the task and the settings, which are in range.
+#[derive(Drop)]
+pub(crate) struct Run<'a> {
+    pub alloc: Global,
+    pub task: &'a Task,
+    pub settings: Settings,
+    pub succ: Plain,
+    pub work: Workspace,
+}
+
+impl<'a> Model for Run<'a> {
+    ghost use Rattle.std.specs.Prelude.{◌≡◌};
+    ghost use Rattle.wp_relax.specs.Workspace.{room_for};
+    ghost use Rattle.wp_plain.specs.Ranges.{AreInRange};
+    ghost use Rattle.wp_commit.specs.Asked.{Asked};
+
+    ghost Value = { Asked };
+
+    ghost view = { λ r. record { task = r.task.now; settings = r.settings } };
+
+    ghost invariant = { λ r. AreInRange r.settings × (r.work ≡ room_for r.task.now) };
+}
+
+impl<'a> Run<'a> {
+    pub(crate) fn of(
+        alloc: Global,
+        task: &'a Task,
+        settings: Settings,
+    ) -> Result<Run<'a>, AllocError>
+        requires { AreInRange settings }
+        ensures { IfOk result (λ run. run ≡ record { task = task.now; settings = settings }) }
+    {
+        let succ = Plain::of(task);
+        let work = Workspace::of(alloc, task)?;
+        Ok(Run {
+            alloc,
+            task,
+            settings,
+            succ,
+            work,
+        })
+    }
+}
