@@ -41,7 +41,7 @@ use Rattle.wp_watch.specs.Places.{texts_after}
 use Rattle.wp_words.specs.declared.commands.Command.TheVariants.{Plan}
 use Rattle.wp_app.specs.Requests.{Asked, Request, kept_of}
 use Rattle.wp_app.specs.Steps.{Step, goes, reply_of, ◌>>=◌}
-use Rattle.wp_app.specs.Output.{answer_of, run_step, files_planned_step, texts_step, lifted_step, planned_step, grounded_step, searched_reply, with_texts, ending_reply, ending_status}
+use Rattle.wp_app.specs.Output.{answer_of, run_step, files_planned_step, texts_step, lifted_step, planned_step, grounded_step, searched_reply, whole, with_texts, ending_reply, ending_status}
 use Rattle.wp_app.specs.Laws.{IsLifted, IsSearched, FoundPlansAreReadBack, GoalsOutOfReachHaveNoPlan, EmptiedSearchesHaveNoPlan, SearchesAreBounded, LargeBudgetsAreNotSpent, LargeLimitsAreNotReached}
 use Rattle.wp_app.proofs.ReplyLemmas.{steps_commanded}
 use Rattle.wp_app.proofs.ChainLemmas.{texts_read, lifted_finely, task_goes, admitted, out_of_reach}
@@ -49,26 +49,26 @@ use Rattle.wp_app.proofs.CommentLemmas.{found_is_comment, texts_are_comments}
 
 -- ---- the reply
 planned : (settings : Settings) (watchers : List (WatchKind × Option ℕ)) (texts : Texts) (lifted : Lifting) (grounded : Grounded) → lifted_step texts.domain texts.problem ≡ goes lifted
-    → grounded_step lifted ≡ goes grounded → planned_step settings watchers texts ≡ goes (searched_reply settings watchers grounded)
+    → grounded_step lifted ≡ goes grounded → planned_step whole settings watchers texts ≡ goes (searched_reply whole settings watchers grounded)
 unfolding planned_step
 planned settings watchers texts lifted grounded lifts grounds =
-    ap (λ (step : Step Lifting). step >>= λ (one : Lifting). grounded_step one >>= λ (task : Grounded). goes (searched_reply settings watchers task)) lifts
-    ∙ ap (λ (step : Step Grounded). step >>= λ (task : Grounded). goes (searched_reply settings watchers task)) grounds
+    ap (λ (step : Step Lifting). step >>= λ (one : Lifting). grounded_step one >>= λ (task : Grounded). goes (searched_reply whole settings watchers task)) lifts
+    ∙ ap (λ (step : Step Grounded). step >>= λ (task : Grounded). goes (searched_reply whole settings watchers task)) grounds
 
 run_plan : (domain problem : List ℕ) (settings : Settings) (watch : List WatchKind) (plain : Bool) (watchers : List (WatchKind × Option ℕ)) (files : Contents) (texts : Texts)
     → texts_step domain problem files ≡ goes texts
-    → run_step (let request : Request = record { command = Plan domain problem settings watch plain; watchers = watchers } in request) files ≡ planned_step settings watchers texts
+    → run_step (let request : Request = record { command = Plan domain problem settings watch plain; watchers = watchers } in request) files ≡ planned_step whole settings watchers texts
 unfolding run_step files_planned_step
-run_plan domain problem settings watch plain watchers files texts read = ap (λ (step : Step Texts). step >>= λ (one : Texts). planned_step settings watchers one) read
+run_plan domain problem settings watch plain watchers files texts read = ap (λ (step : Step Texts). step >>= λ (one : Texts). planned_step whole settings watchers one) read
 
 -- what the watchers say of the search of a task
 abbrev said : Settings → List (WatchKind × Option ℕ) → Grounded → List (List ℕ)
 said settings watchers grounded = texts_after watchers (run grounded.task settings (all_tuples grounded.task settings)).1.events
 
 searched : (settings : Settings) (watchers : List (WatchKind × Option ℕ)) (grounded : Grounded) (ending : Ending) → ending_of grounded.task settings (all_tuples grounded.task settings) ≡ ending
-    → searched_reply settings watchers grounded ≡ with_texts (ending_reply settings grounded ending) (said settings watchers grounded)
+    → searched_reply whole settings watchers grounded ≡ with_texts (ending_reply whole settings grounded ending) (said settings watchers grounded)
 unfolding searched_reply
-searched settings watchers grounded ending ends = ap (λ (one : Ending). with_texts (ending_reply settings grounded one) (said settings watchers grounded)) ends
+searched settings watchers grounded ending ends = ap (λ (one : Ending). with_texts (ending_reply whole settings grounded one) (said settings watchers grounded)) ends
 
 -- the watchers that are kept for the search
 abbrev watchers_of : (asked : Asked) (files : Contents) (settings : Settings) (lifted : Lifting) → IsLifted asked files settings lifted → List (WatchKind × Option ℕ)
@@ -77,7 +77,7 @@ watchers_of asked files settings lifted of = kept_of (Plan of.domain of.problem 
 -- the answer of a search that ended so
 abbrev answer_with : (asked : Asked) (files : Contents) (settings : Settings) (lifted : Lifting) (ending : Ending) → IsSearched asked files settings lifted ending → Reply
 answer_with asked files settings lifted ending is =
-    with_texts (ending_reply settings is.grounded ending) (said settings (watchers_of asked files settings lifted is.lifts) is.grounded)
+    with_texts (ending_reply whole settings is.grounded ending) (said settings (watchers_of asked files settings lifted is.lifts) is.grounded)
 
 answered : (asked : Asked) (files : Contents) (settings : Settings) (lifted : Lifting) (ending : Ending)
     (is : IsSearched asked files settings lifted ending) → answer_of asked files ≡ Some (answer_with asked files settings lifted ending is)
@@ -92,7 +92,7 @@ answered asked files settings lifted ending is =
 
 -- the status of an ending
 status_by : (settings : Settings) (grounded : Grounded) (ending : Ending) (how : How) → ending.how ≡ how
-    → (ending_reply settings grounded ending).status ≡ ending_status settings.search how
+    → (ending_reply whole settings grounded ending).status ≡ ending_status settings.search how
 unfolding ending_reply
 status_by settings grounded ending how is = ap (ending_status settings.search) is
 
@@ -112,7 +112,7 @@ plan_is lifted (a ∷ plan) (here, later) = λ j. line (name_is lifted a here j)
 
 found_reply : (settings : Settings) (lifted : Lifting) (grounded : Grounded) (ending : Ending) (plan : List ℕ) → ending.how ≡ Found plan
     → grounded_of lifted ≡ grounded → AllByRecursion (λ (a : ℕ). a < length (task_of lifted).acts) plan
-    → (ending_reply settings grounded ending).text
+    → (ending_reply whole settings grounded ending).text
     ≡ steps_text (naming_steps lifted (map (instance_at lifted) plan)) ++ found_text (length plan) ending.counts
 unfolding ending_reply ending_text ending_line
 found_reply settings lifted grounded ending plan found same all =

@@ -1,6 +1,6 @@
 -- The plan that a search finds has numbers of actions alone.
-use Rattle.std.proofs.Common.{◌≡◌, ℕ, ◌<◌, ◌&&◌, Bool, true, false, List, [], ◌∷◌, length, refl, sym, ap}
-use Rattle.std.specs.Prelude.{nat_lt, Option, None}
+use Rattle.std.proofs.Common.{◌≡◌, ℕ, ◌<◌, ◌&&◌, Bool, true, false, List, [], ◌∷◌, length, refl, sym, ap, subst}
+use Rattle.std.specs.Prelude.{nat_lt, Option, None, Result}
 use Rattle.std.specs.List.{AllByRecursion}
 use Rattle.std.proofs.lemmas.Bool.{and_parts, ltb-true}
 use Rattle.std.proofs.lemmas.List.Elements.{All-from_recursion}
@@ -14,6 +14,13 @@ use Rattle.wp_plain.specs.Laws.{FoundIsPlan}
 use Rattle.wp_plain.specs.Pairs.{all_tuples}
 use Rattle.wp_plain.specs.Run.{ending_of}
 use Rattle.wp_report.specs.Endings.{IsPlanBelow}
+use Rattle.wp_watch.specs.declared.watch.WatchKind.{WatchKind}
+use Rattle.wp_app.specs.declared.inputs.Texts.{Texts}
+use Rattle.wp_app.specs.declared.reply.Reply.{Reply}
+use Rattle.wp_app.specs.declared.shown.Shown.{Shown}
+use Rattle.wp_app.specs.declared.stop.Stop.{Stop}
+use Rattle.wp_app.specs.Output.{planned_step}
+use Rattle.wp_app.specs.Stops.{Meets}
 
 passed : (goals : List ℕ) (tested : Bool) (next : Option (List Bool))
     → has_goals goals (elim tested as (λ _. Option (List Bool)) [ true ↦ next | false ↦ None ]) ≡ true
@@ -41,3 +48,8 @@ how_below found task settings (Words pairs) e = tt
 pub found_below : FoundIsPlan → (task : PlanningTask) (settings : Settings) (ending : Ending) → ending ≡ ending_of task settings (all_tuples task settings)
     → IsPlanBelow (length task.acts) ending.how
 found_below found task settings ending same = how_below found task settings ending.how (ap (λ (end : Ending). end.how) (sym same))
+
+-- what is shown, by an equal value
+pub shows : (shown other : Shown) (settings : Settings) (watchers : List (WatchKind × Option ℕ)) (texts : Texts) (result : Result Reply Stop) → shown ≡ other
+    → Meets {A = Reply} (planned_step shown settings watchers texts) result → Meets {A = Reply} (planned_step other settings watchers texts) result
+shows shown other settings watchers texts result same = subst (λ (one : Shown). Meets {A = Reply} (planned_step one settings watchers texts) result) same

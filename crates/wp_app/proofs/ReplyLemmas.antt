@@ -14,7 +14,7 @@ use Rattle.wp_app.specs.declared.reply.Status.TheVariants as statuses
 use Rattle.wp_app.specs.declared.stop.Stop.{Stop}
 use Rattle.wp_app.specs.declared.stop.Stop.TheVariants.{Ends, ReadFault}
 use Rattle.wp_words.specs.declared.commands.Command.{Command}
-use Rattle.wp_words.specs.declared.commands.Command.TheVariants.{Check, Ground}
+use Rattle.wp_words.specs.declared.commands.Command.TheVariants.{Check, Gen, Ground}
 use Rattle.wp_words.specs.declared.commands.Command.TheVariants as commands
 use Rattle.wp_words.specs.Words.{command_of}
 use Rattle.wp_app.specs.Steps.{Step, missing, goes, reply_of, ◌>>=◌}
@@ -104,6 +104,7 @@ named_file contents (Ground domain problem) Plan reached = absurd reached
 named_file contents (commands.Plan domain problem settings watch plain) Domain reached = refl
 named_file contents (commands.Plan domain problem settings watch plain) Problem reached = refl
 named_file contents (commands.Plan domain problem settings watch plain) Plan reached = absurd reached
+named_file contents (Gen number size settings watch plain) part reached = absurd reached
 
 abbrev unread_line : List ℕ → Reply
 unread_line text = record { text = text; status = statuses.ReadFault }

@@ -9,7 +9,7 @@ use Rattle.wp_app.specs.declared.reply.Reply.{Reply}
 use Rattle.wp_app.specs.declared.reply.Status.{Status}
 use Rattle.wp_app.specs.declared.reply.Status.TheVariants.{Done, NoPlan, QueueEmpty, Budget, Words}
 use Rattle.wp_report.specs.Endings.{counts_text, ending_line, ending_text, found_text, words_text}
-use Rattle.wp_app.specs.Output.{searched_reply, ending_reply}
+use Rattle.wp_app.specs.Output.{searched_reply, ending_reply, whole}
 
 -- a gives b, b gives c and takes a away
 abbrev chain : List ℕ → Grounded
@@ -32,7 +32,7 @@ abbrev reply_in : Row → Reply
 reply_in row = row.2
 
 abbrev reply_to : Row → Reply
-reply_to row = searched_reply row.1 [] (chain row.0)
+reply_to row = searched_reply whole row.1 [] (chain row.0)
 
 abbrev asking : Search → ℕ → ℕ → Settings
 asking search budget words =

@@ -41,7 +41,7 @@ use Rattle.wp_watch.specs.declared.watch.WatchKind.{WatchKind}
 use Rattle.wp_words.specs.declared.commands.Command.TheVariants.{Plan}
 use Rattle.wp_app.specs.Requests.{Asked, kept_of}
 use Rattle.wp_app.specs.Steps.{Step, missing, ends, goes, reply_of, ◌>>=◌}
-use Rattle.wp_app.specs.Output.{limit_of, answer_of, answered, within, part_of, items_by, items_step, record_by, domain_in, problem_in, domain_step, problem_step, texts_step, lifted_by, lifted_step, task_by, grounded_step, files_planned_step, planned_step, run_step, searched_reply, ending_reply, ending_status}
+use Rattle.wp_app.specs.Output.{limit_of, answer_of, answered, within, part_of, items_by, items_step, record_by, domain_in, problem_in, domain_step, problem_step, texts_step, lifted_by, lifted_step, task_by, grounded_step, files_planned_step, planned_step, run_step, searched_reply, whole, ending_reply, ending_status}
 use Rattle.wp_app.specs.Laws.{IsLifted, IsSearched, IsPlanned, IsReadAs, HasNoPlan, FoundPlansAreReadBack, GoalsOutOfReachHaveNoPlan, EmptiedSearchesHaveNoPlan, DoneAnswersAreValidPlans, AnswersOfNoPlanAreTrue}
 use Rattle.wp_app.proofs.ReplyLemmas.{steps_commanded}
 use Rattle.wp_app.proofs.ChainLemmas.{both, from_problem}
@@ -146,7 +146,7 @@ record Answers (asked : Asked) (files : Contents) (settings : Settings) (reply :
   lifted : Lifting
   lifts : IsLifted asked files settings lifted
   watchers : List (WatchKind × Option ℕ)
-  replies : reply_of (grounded_step lifted >>= λ (grounded : Grounded). goes (searched_reply settings watchers grounded)) ≡ Some reply
+  replies : reply_of (grounded_step lifted >>= λ (grounded : Grounded). goes (searched_reply whole settings watchers grounded)) ≡ Some reply
 
 answers : (asked : Asked) (files : Contents) (settings : Settings) (reply : Reply) (status : Status) → IsLater status
     → IsPlanned asked files settings reply → reply.status ≡ status → Answers asked files settings reply
@@ -155,10 +155,10 @@ answers asked files settings reply status later is same =
     let command = Plan is.domain is.problem settings is.watch is.plain in
     let watchers = kept_of command asked.watchers in
     let run = sym (ap reply_of (steps_commanded asked command files is.command)) ∙ is.answer in
-    let first = after status (texts_step is.domain is.problem files) (planned_step settings watchers) reply (texts_later status later is.domain is.problem files) run same in
+    let first = after status (texts_step is.domain is.problem files) (planned_step whole settings watchers) reply (texts_later status later is.domain is.problem files) run same in
     let second =
     after status (lifted_step first.0.domain first.0.problem)
-    (λ (lifted : Lifting). grounded_step lifted >>= λ (grounded : Grounded). goes (searched_reply settings watchers grounded)) reply
+    (λ (lifted : Lifting). grounded_step lifted >>= λ (grounded : Grounded). goes (searched_reply whole settings watchers grounded)) reply
     (lifted_later status later first.0.domain first.0.problem) first.2 same in record {
       lifted = second.0;
       lifts = record { domain = is.domain; problem = is.problem; watch = is.watch; plain = is.plain; texts = first.0; command = is.command; read = first.1; lifts = second.1 };
@@ -190,9 +190,9 @@ searched asked files settings reply status later reach memory is same =
     let of = answers asked files settings reply status later is same in
     let last =
     after status (task_by (refusal_of of.lifted) (grounded_of of.lifted))
-    (λ (grounded : Grounded). goes (searched_reply settings of.watchers grounded)) reply
+    (λ (grounded : Grounded). goes (searched_reply whole settings of.watchers grounded)) reply
     (refused_later status later reach memory (refusal_of of.lifted) (grounded_of of.lifted)) of.replies same in
-    let answer : searched_reply settings of.watchers last.0 ≡ reply = cc in record {
+    let answer : searched_reply whole settings of.watchers last.0 ≡ reply = cc in record {
       lifted = of.lifted;
       ending = ending_of last.0.task settings (all_tuples last.0.task settings);
       is_searched = record { lifts = of.lifts; grounded = last.0; grounds = last.1; ends = refl };
@@ -226,11 +226,11 @@ status_of : (ended reply : Reply) → reply_of (ends ended) ≡ Some reply → e
 status_of ended reply e = let same : ended ≡ reply = cc in ap (λ (one : Reply). one.status) same
 
 not_reached : (refusal : Option GroundError) (made : Grounded) (settings : Settings) (watchers : List (WatchKind × Option ℕ)) (reply : Reply) → reply.status ≡ statuses.OutOfReach
-    → reply_of (task_by refusal made >>= λ (grounded : Grounded). goes (searched_reply settings watchers grounded)) ≡ Some reply
+    → reply_of (task_by refusal made >>= λ (grounded : Grounded). goes (searched_reply whole settings watchers grounded)) ≡ Some reply
     → (goal : ℕ) × (atom : List ℕ) × (refusal ≡ Some (GoalOutOfReach goal atom))
 unfolding searched_reply ending_reply
 not_reached None made settings watchers reply is e =
-    absurd (no_ending settings.search (ending_of made.task settings (all_tuples made.task settings)).how (status_of (searched_reply settings watchers made) reply e ∙ is))
+    absurd (no_ending settings.search (ending_of made.task settings (all_tuples made.task settings)).how (status_of (searched_reply whole settings watchers made) reply e ∙ is))
 not_reached (Some TooManyActs) made settings watchers reply is e =
     let same : statuses.Limit ≡ statuses.OutOfReach = status_of (record { text = ground_error_text TooManyActs; status = statuses.Limit }) reply e ∙ is in cc
 not_reached (Some TooManyAtoms) made settings watchers reply is e =

@@ -85,3 +85,11 @@ meets_stop {A} {B} {step} {stop} next meets = record {
   gives = gives_stop step next stop meets.gives;
   read = λ unread. meets.read (unread_stop A B stop unread);
 }
+
+-- a step that reads no file, as one over the files
+pub meets_follows : {A : Type 0} {contents : Option Contents} {step : Step A} {before now : ℕ} {result : Result A Stop} → Meets {A = A} step result → Follows {A = A} contents (λ files. step) before now result
+meets_follows meets = record {
+  defined = meets.defined;
+  gives = λ files told. meets.gives;
+  fault = λ unread. absurd (meets.read unread);
+}

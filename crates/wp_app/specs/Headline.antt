@@ -11,7 +11,7 @@ use Rattle.wp_app.specs.declared.reply.Status.{Status}
 use Rattle.wp_app.specs.declared.reply.Status.TheVariants as statuses
 use Rattle.wp_app.specs.declared.inputs.Texts.{Texts}
 use Rattle.wp_words.specs.declared.commands.Command.{Command}
-use Rattle.wp_words.specs.declared.commands.Command.TheVariants.{Check, Ground, Plan}
+use Rattle.wp_words.specs.declared.commands.Command.TheVariants.{Check, Gen, Ground, Plan}
 use Rattle.wp_words.specs.Words.{command_of}
 use Rattle.wp_app.specs.Requests.{Asked, Request, request_of, file_of}
 use Rattle.wp_app.specs.Steps.{goes, ◌>>=◌}
@@ -67,6 +67,7 @@ IsReached contents (Check domain problem plan) parts.Plan =
     (files : Contents) → contents ≡ Some files → (texts : Texts) × (texts_step domain problem files ≡ goes texts)
 IsReached contents (Ground domain problem) part = IsInputReached contents domain part
 IsReached contents (Plan domain problem settings watch plain) part = IsInputReached contents domain part
+IsReached contents (Gen number size settings watch plain) part = ⊥
 
 -- the words name the part's file, and the run comes to it
 pub record IsNext (asked : Asked) (contents : Option Contents) (part : Part) : Type 0 where

@@ -1,7 +1,8 @@
 -- The output of words and files: one text and one status, or none where it comes to a file that is not there. It is the first of
 -- these that has an answer: words without a command; of the domain, then the problem, then the plan, a file that is too long, then
 -- a fault of its text; a fault of the names; for `check` the verdict; for `ground` the cause against a task, or
--- the task; for `plan` that cause, or how the search of the task ends, with what the watchers say of it.
+-- the task; for `plan` that cause, or how the search of the task ends, with what the watchers say of it. For `gen` the texts are those
+-- that are made of the number and the size, and a line that names these stands before the ending in place of a plan's steps.
 use Rattle.std.specs.Prelude.{ℕ, nat_lt, true, false, Option, None, Some, Result, Ok, Err, List, [], ◌∷◌, ◌++◌, length}
 use Rattle.std.specs.List.{flat_map}
 use Rattle.std.specs.FinMap.{get}
@@ -37,7 +38,7 @@ use Rattle.wp_app.specs.declared.reply.Status.{Status}
 use Rattle.wp_app.specs.declared.reply.Status.TheVariants as statuses
 use Rattle.wp_app.specs.declared.inputs.Texts.{Texts}
 use Rattle.wp_words.specs.declared.commands.Command.{Command}
-use Rattle.wp_words.specs.declared.commands.Command.TheVariants.{Check, Ground, Plan}
+use Rattle.wp_words.specs.declared.commands.Command.TheVariants.{Check, Gen, Ground, Plan}
 use Rattle.wp_app.specs.Requests.{Asked, Request, request_of}
 use Rattle.wp_app.specs.Steps.{Step, missing, ends, goes, reply_of, ◌>>=◌}
 use Rattle.wp_plain.specs.declared.settings.Search.{Search}
@@ -50,11 +51,13 @@ use Rattle.wp_plain.specs.Pairs.{all_tuples, tuple_count}
 use Rattle.wp_plain.specs.Run.{run, ending_of}
 use Rattle.wp_watch.specs.declared.watch.WatchKind.{WatchKind}
 use Rattle.wp_watch.specs.Places.{texts_after}
-use Rattle.wp_report.specs.Inputs.{usage_text, too_long_text}
+use Rattle.wp_report.specs.Inputs.{gen_text, usage_text, too_long_text}
 use Rattle.wp_report.specs.Refusals.{lex_text, pddl_text, plan_error_text}
 use Rattle.wp_report.specs.Verdicts.{verdict_text}
 use Rattle.wp_report.specs.Tasks.{ground_text, ground_error_text}
 use Rattle.wp_report.specs.Endings.{ending_text}
+use Rattle.wp_gen.specs.Depot.{domain_text, problem_text}
+use Rattle.wp_app.specs.declared.shown.Shown.{Shown}
 
 -- the most bytes that the file of a part may have
 abbrev pub limit_of : Part → ℕ
@@ -180,9 +183,16 @@ ending_status KBfws hows.Emptied = statuses.QueueEmpty
 ending_status search hows.Budget = statuses.Budget
 ending_status search (hows.Words pairs) = statuses.Words
 
-unfoldable pub ending_reply : Settings → Grounded → Ending → Reply
-ending_reply settings grounded ending = record {
-  text = ending_text grounded settings (tuple_count settings.width grounded.task.atoms) ending true;
+-- a plan is shown with its steps and nothing before them; a task that is made by its line, without the steps of its plan
+abbrev pub whole : Shown
+whole = record { front = []; with_plan = true }
+
+abbrev pub named : ℕ → ℕ → Shown
+named number size = record { front = gen_text number size; with_plan = false }
+
+unfoldable pub ending_reply : Shown → Settings → Grounded → Ending → Reply
+ending_reply shown settings grounded ending = record {
+  text = shown.front ++ ending_text grounded settings (tuple_count settings.width grounded.task.atoms) ending shown.with_plan;
   status = ending_status settings.search ending.how;
 }
 
@@ -191,16 +201,16 @@ abbrev pub with_texts : Reply → List (List ℕ) → Reply
 with_texts reply texts = record reply { text = reply.text ++ flat_map (λ text. text) texts }
 
 -- the ending of the search of the task, and behind it what the watchers say of its events, in their order
-unfoldable pub searched_reply : Settings → List (WatchKind × Option ℕ) → Grounded → Reply
-searched_reply settings watchers grounded =
-    with_texts (ending_reply settings grounded (ending_of grounded.task settings (all_tuples grounded.task settings)))
+unfoldable pub searched_reply : Shown → Settings → List (WatchKind × Option ℕ) → Grounded → Reply
+searched_reply shown settings watchers grounded =
+    with_texts (ending_reply shown settings grounded (ending_of grounded.task settings (all_tuples grounded.task settings)))
     (texts_after watchers (run grounded.task settings (all_tuples grounded.task settings)).1.events)
 
-unfoldable pub planned_step : Settings → List (WatchKind × Option ℕ) → Texts → Step Reply
-planned_step settings watchers texts = do
+unfoldable pub planned_step : Shown → Settings → List (WatchKind × Option ℕ) → Texts → Step Reply
+planned_step shown settings watchers texts = do
   lifted ← lifted_step texts.domain texts.problem
   grounded ← grounded_step lifted
-  goes (searched_reply settings watchers grounded)
+  goes (searched_reply shown settings watchers grounded)
 
 unfoldable pub numbered_step : Texts → Step Reply
 numbered_step texts = do
@@ -222,12 +232,25 @@ files_numbered_step domain problem files = do
 unfoldable pub files_planned_step : List ℕ → List ℕ → Settings → List (WatchKind × Option ℕ) → Contents → Step Reply
 files_planned_step domain problem settings watchers files = do
   texts ← texts_step domain problem files
-  planned_step settings watchers texts
+  planned_step whole settings watchers texts
+
+-- the domain and the problem that are made of a number and a size, read as those of files
+unfoldable pub made_step : ℕ → ℕ → Step Texts
+made_step number size = do
+  domain_record ← domain_step domain_text
+  problem_record ← problem_step (problem_text number size)
+  goes (record { domain = domain_record; problem = problem_record })
+
+unfoldable pub generated_step : ℕ → ℕ → Settings → List (WatchKind × Option ℕ) → Step Reply
+generated_step number size settings watchers = do
+  texts ← made_step number size
+  planned_step (named number size) settings watchers texts
 
 abbrev pub command_step : List (WatchKind × Option ℕ) → Command → Contents → Step Reply
 command_step watchers (Check domain problem plan) files = files_checked_step domain problem plan files
 command_step watchers (Ground domain problem) files = files_numbered_step domain problem files
 command_step watchers (Plan domain problem settings watch plain) files = files_planned_step domain problem settings watchers files
+command_step watchers (Gen number size settings watch plain) files = generated_step number size settings watchers
 
 unfoldable pub run_step : Request → Contents → Step Reply
 run_step request files = command_step request.watchers request.command files

@@ -1,12 +1,12 @@
 -- What is asked of a run: its words, and the watchers that are handed in; and what the words make of it.
-use Rattle.std.specs.Prelude.{◌||◌, ℕ, Bool, true, false, List, [], filter, Option, None, Some}
+use Rattle.std.specs.Prelude.{◌||◌, ℕ, Bool, false, List, filter, Option, None, Some}
 use Rattle.std.specs.List.{list_any}
 use Rattle.wp_syntax.specs.declared.error.Part.{Part}
 use Rattle.wp_syntax.specs.declared.error.Part.TheVariants as parts
 use Rattle.wp_watch.specs.declared.watch.WatchKind.{WatchKind}
 use Rattle.wp_watch.specs.declared.watch.WatchKind.TheVariants.{Silent}
 use Rattle.wp_words.specs.declared.commands.Command.{Command}
-use Rattle.wp_words.specs.declared.commands.Command.TheVariants.{Check, Ground, Plan}
+use Rattle.wp_words.specs.declared.commands.Command.TheVariants.{Check, Gen, Ground, Plan}
 use Rattle.wp_words.specs.Kinds.{is_kind}
 use Rattle.wp_words.specs.Words.{command_of}
 
@@ -23,6 +23,7 @@ pub record Request : Type 0 where
 -- whether a command keeps the watchers of a kind: a search keeps those that its words ask for, and the silent ones
 abbrev pub keeps_kind : Command → WatchKind → Bool
 keeps_kind (Plan domain problem settings watch plain) kind = is_kind kind Silent || list_any (is_kind kind) watch
+keeps_kind (Gen number size settings watch plain) kind = is_kind kind Silent || list_any (is_kind kind) watch
 keeps_kind (Check domain problem plan) kind = false
 keeps_kind (Ground domain problem) kind = false
 
@@ -37,7 +38,7 @@ request_from watchers (Some command) = Some (record { command = command; watcher
 abbrev pub request_of : Asked → Option Request
 request_of asked = request_from asked.watchers (command_of asked.words)
 
--- the name of a part's file
+-- the name of a part's file; a task that is made has none
 abbrev pub file_of : Command → Part → Option (List ℕ)
 file_of (Check domain problem plan) parts.Domain = Some domain
 file_of (Check domain problem plan) parts.Problem = Some problem
@@ -48,3 +49,4 @@ file_of (Ground domain problem) parts.Plan = None
 file_of (Plan domain problem settings watch plain) parts.Domain = Some domain
 file_of (Plan domain problem settings watch plain) parts.Problem = Some problem
 file_of (Plan domain problem settings watch plain) parts.Plan = None
+file_of (Gen number size settings watch plain) part = None

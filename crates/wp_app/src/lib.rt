@@ -9,6 +9,7 @@
 
 mod check;
 mod fetch;
+mod generate;
 mod ground;
 mod inputs;
 mod laws;
@@ -17,6 +18,7 @@ mod put;
 mod readers;
 mod reply;
 mod run;
+mod shown;
 mod stop;
 
 pub use laws::{

@@ -8,7 +8,7 @@ ghost use Rattle.wp_watch.specs.declared.watch.WatchKind.{WatchKind};
 ghost use Rattle.wp_watch.specs.Places.{AreAfter, AreUntold};
 ghost use Rattle.wp_plain.specs.Places.{places_in};
 ghost use Rattle.wp_app.specs.Headline.{IsInputReached};
-ghost use Rattle.wp_app.specs.Output.{ending_reply, ending_status, files_planned_step, planned_step, searched_reply, with_texts};
+ghost use Rattle.wp_app.specs.Output.{ending_reply, ending_status, files_planned_step, planned_step, searched_reply, whole, with_texts};
 ghost use Rattle.wp_app.specs.Statuses.{is_of_files};
 ghost use Rattle.wp_app.specs.Stops.{Follows, IfUnread, Meets};
 ghost use Rattle.wp_report.specs.Endings.{IsPlanBelow};
@@ -18,6 +18,7 @@ use crate::ground::grounded_of;
 use crate::inputs::{Texts, read_texts};
 use crate::readers::lifted_of;
 use crate::reply::{Reply, Status};
+use crate::shown::Shown;
 use crate::stop::Stop;
 use std::alloc::{AllocError, Global};
 use std::thread::Threads;
@@ -53,14 +54,26 @@ pub fn plan_files<R: Threads + Sync, S: Shelf>(
     ensures later { S.faults shelf.old ≤ S.faults shelf.new }
 {
     let texts = read_texts(alloc, shelf, domain, problem)?;
-    planned(rt, alloc, &texts, settings, plain, watchers)
+    let shown = whole(alloc);
+    planned(rt, alloc, shown, &texts, settings, plain, watchers)
+}
+
+// All of a search, with nothing before it.
+fn whole(alloc: Global) -> Shown
+    ensures { result ≡ whole }
+{
+    Shown {
+        front: Text::of_vec(Vec::new(alloc)),
+        with_plan: true,
+    }
 }
 
 /// The answer to a domain and a problem that have no fault of their own.
 #[tactic(auto, unfolding(crate::specs::Output::planned_step))]
-fn planned<R: Threads + Sync>(
+pub fn planned<R: Threads + Sync>(
     rt: &R,
     alloc: Global,
+    shown: Shown,
     texts: &Texts,
     settings: &Settings,
     plain: bool,
@@ -69,12 +82,12 @@ fn planned<R: Threads + Sync>(
     requires range { AreInRange settings.now }
     requires untold { AreUntold (places_in kind until told watchers) }
     ensures meets { (list : List (WatchKind × Option ℕ)) → AreAfter list [] (places_in kind until told watchers) →
-        Meets (planned_step settings.now list texts.now) result }
+        Meets (planned_step shown settings.now list texts.now) result }
     ensures defined { IfOk result (λ reply. IsTrue (is_of_files reply.status)) }
 {
     let lifted = lifted_of(alloc, texts)?;
     let grounded = grounded_of(alloc, &lifted)?;
-    Ok(searched(rt, alloc, settings, &grounded, plain, watchers)?)
+    Ok(searched(rt, alloc, shown, settings, &grounded, plain, watchers)?)
 }
 
 /// The ending of the search of the task, and what the watchers say of it.
@@ -82,6 +95,7 @@ fn planned<R: Threads + Sync>(
 fn searched<R: Threads + Sync>(
     rt: &R,
     alloc: Global,
+    shown: Shown,
     settings: &Settings,
     grounded: &Grounded,
     plain: bool,
@@ -91,7 +105,7 @@ fn searched<R: Threads + Sync>(
     requires named { IsNamed grounded.now }
     requires untold { AreUntold (places_in kind until told watchers) }
     ensures reply { IfOk result (λ reply. (list : List (WatchKind × Option ℕ)) → AreAfter list [] (places_in kind until told watchers) →
-        reply ≡ searched_reply settings.now list grounded.now) }
+        reply ≡ searched_reply shown settings.now list grounded.now) }
     ensures defined { IfOk result (λ reply. IsTrue (is_of_files reply.status)) }
 {
     // What is found is a plan of the task, so its numbers are those of actions.
@@ -100,7 +114,7 @@ fn searched<R: Threads + Sync>(
     places_follow();
     let mut watchers = watchers;
     let ending = search_task(rt, alloc, &grounded.task, settings, plain, &mut watchers)?;
-    let reply = ending_reply(alloc, settings, grounded, &ending)?;
+    let reply = ending_reply(alloc, shown, settings, grounded, &ending)?;
     let texts = watchers.texts(alloc)?;
     with_texts(reply, &texts)
 }
@@ -145,6 +159,7 @@ fn search_task<R: Threads + Sync>(
 #[tactic(auto, unfolding(crate::specs::Output::ending_reply))]
 fn ending_reply(
     alloc: Global,
+    shown: Shown,
     settings: &Settings,
     grounded: &Grounded,
     ending: &Ending,
@@ -152,14 +167,24 @@ fn ending_reply(
     requires range { AreInRange settings.now }
     requires named { IsNamed grounded.now }
     requires plan { IsPlanBelow (length grounded.now.task.acts) ending.now.how }
-    ensures reply { IfOk result (λ reply. reply ≡ ending_reply settings.now grounded.now ending.now) }
+    ensures reply { IfOk result (λ reply. reply ≡ ending_reply shown settings.now grounded.now ending.now) }
     ensures defined { IfOk result (λ reply. IsTrue (is_of_files reply.status)) }
 {
     let tuples = tuple_count(settings.width, grounded.task.atoms());
+    let Shown { front, with_plan } = shown;
+    let text = ending_text(alloc, grounded, settings, tuples, ending, with_plan)?;
     Ok(Reply {
-        text: ending_text(alloc, grounded, settings, tuples, ending, true)?,
+        text: behind(front, &text)?,
         status: ending_status(settings.search, &ending.how),
     })
+}
+
+fn behind(front: Text, text: &Text) -> Result<Text, AllocError>
+    ensures { IfOk result (λ both. both ≡ front ++ text.now) }
+{
+    let mut both = front.into_vec();
+    both.extend_from_slice(text.as_slice())?;
+    Ok(Text::of_vec(both))
 }
 
 fn ending_status(search: Search, how: &How) -> Status

@@ -13,6 +13,7 @@ ghost use Rattle.wp_app.specs.Statuses.{is_defined, is_of_files};
 ghost use Rattle.wp_app.specs.Stops.{Follows, IfUnread};
 
 use crate::check::check;
+use crate::generate::generated;
 use crate::ground::ground_files;
 use crate::plan::plan_files;
 use crate::put::put_all;
@@ -127,8 +128,9 @@ fn keeps_kind(command: &Command, kind: WatchKind) -> bool
     ensures { result ≡ keeps_kind command.now kind }
 {
     match command {
-        Command::Plan { watch, .. } => kind == WatchKind::Silent
-            || watch.as_slice().contains(&kind),
+        Command::Plan { watch, .. } | Command::Gen { watch, .. } => {
+            kind == WatchKind::Silent || watch.as_slice().contains(&kind)
+        }
         Command::Check { .. } | Command::Ground { .. } => false,
     }
 }
@@ -195,5 +197,12 @@ fn run_command<R: Threads + Sync, S: Shelf>(
         } => plan_files(
             rt, alloc, shelf, domain, problem, settings, *plain, watchers,
         ),
+        Command::Gen {
+            number,
+            size,
+            settings,
+            watch: _,
+            plain,
+        } => generated(rt, alloc, *number, *size, settings, *plain, watchers),
     }
 }

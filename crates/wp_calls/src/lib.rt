@@ -8,6 +8,8 @@
 #[cfg(test)]
 mod counters;
 #[cfg(test)]
+mod depots;
+#[cfg(test)]
 mod events;
 #[cfg(test)]
 mod searches;

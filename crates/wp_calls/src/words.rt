@@ -132,6 +132,25 @@ fn behind_two_dashes_stand_names_of_files(rt: HostRuntime) {
 }
 
 #[test]
+fn a_task_is_asked_for_by_number_and_size(rt: HostRuntime) {
+    match command_in(rt.alloc(), "gen --plain 7 64") {
+        Ok(
+            Command::Gen {
+                number,
+                size,
+                plain,
+                ..
+            },
+        ) => {
+            assert_eq!(rt; number, 7);
+            assert_eq!(rt; size, 64);
+            assert!(rt; plain);
+        }
+        _ => assert!(rt; false),
+    }
+}
+
+#[test]
 fn words_without_a_command_are_refused(rt: HostRuntime) -> Result<(), Fail> {
     let alloc = rt.alloc();
     let lines = [
@@ -145,7 +164,7 @@ fn words_without_a_command_are_refused(rt: HostRuntime) -> Result<(), Fail> {
         "plan d p --help",
         "check d p",
         "ground d p --plain",
-        "gen 7 1",
+        "gen 7 65",
         "fly",
         "",
     ];

@@ -14,7 +14,7 @@ use Rattle.wp_plain.specs.declared.settings.Settings.{Settings}
 use Rattle.wp_plain.specs.declared.ending.Counts.{Counts}
 use Rattle.wp_plain.specs.declared.ending.How.{How}
 use Rattle.wp_plain.specs.declared.ending.How.TheVariants.{Found, Emptied, Budget, Words}
-use Rattle.wp_report.specs.Inputs.{too_long_text, read_fault_text}
+use Rattle.wp_report.specs.Inputs.{gen_text, too_long_text, read_fault_text}
 use Rattle.wp_report.specs.Refusals.{lexical_text, kind_text, limit_text, fault_text, refusal_text, lex_text, pddl_text, plan_error_text}
 use Rattle.wp_report.specs.Tasks.{ground_text, ground_error_text, atom_line, act_line}
 use Rattle.wp_report.specs.Endings.{counts_text, found_text, words_text, ending_line, ending_text}
@@ -85,6 +85,10 @@ unread : read_fault_text Plan ++ too_long_text Domain 4194304
     ≡ codes "; read fault: plan\n; limit: domain longer than 4194304 bytes\n"
 unfolding read_fault_text too_long_text digits
 unread = refl
+
+generated : gen_text 4294967295 64 ≡ codes "; gen number 4294967295 size 64\n"
+unfolding gen_text digits
+generated = refl
 
 refused : lex_text Problem (lexical.TooDeep 64) ++ plan_error_text (plans.Lex lexical.Unclosed) ++ plan_error_text (plans.Shape 1)
     ++ pddl_text (Bad Domain (Unsupported (codes "or")) 63) ++ pddl_text (Bad Problem (TooMany 65536) 7)

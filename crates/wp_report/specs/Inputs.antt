@@ -1,4 +1,5 @@
--- The lines of what is asked wrongly: words that have no command, a file that cannot be read, a file that is longer than its limit.
+-- The lines of what is asked wrongly: words that have no command, a file that cannot be read, a file that is longer than its limit;
+-- and the line that names the number and the size of a task that is made.
 -- Each line ends with a line feed; numbers are plain decimal.
 use Rattle.std.specs.Prelude.{ℕ, List, ◌++◌, codes, decimal}
 use Rattle.wp_syntax.specs.declared.error.Part.{Part}
@@ -15,6 +16,9 @@ too_long_text part limit = line (codes "; limit: " ++ part_text part ++ codes " 
 
 unfoldable pub read_fault_text : Part → List ℕ
 read_fault_text part = line (codes "; read fault: " ++ part_text part)
+
+unfoldable pub gen_text : ℕ → ℕ → List ℕ
+gen_text number size = line (codes "; gen number " ++ decimal number ++ codes " size " ++ decimal size)
 
 unfoldable pub usage_text : List ℕ
 usage_text =

@@ -1,7 +1,7 @@
-//! The lines of words that have no command, and of a file that is not read.
+//! The lines of words that have no command, of a file that is not read, and of a task that is made.
 
 ghost use Rattle.std.specs.Prelude.{◌≡◌, ◌++◌, IfOk};
-ghost use Rattle.wp_report.specs.Inputs.{too_long_text, read_fault_text, usage_text};
+ghost use Rattle.wp_report.specs.Inputs.{gen_text, too_long_text, read_fault_text, usage_text};
 
 use crate::pieces::{part_word, put_number};
 use std::alloc::{AllocError, Global};
@@ -29,6 +29,19 @@ pub fn read_fault_text(alloc: Global, part: Part) -> Result<Text, AllocError>
 {
     let mut line = Vec::from_slice(alloc, b"; read fault: ")?;
     line.extend_from_slice(part_word(part).as_bytes())?;
+    line.push(b'\n')?;
+    Ok(Text::of_vec(line))
+}
+
+/// The line of a task that is made from a number and a size.
+#[tactic(auto, unfolding(crate::specs::Inputs::gen_text))]
+pub fn gen_text(alloc: Global, number: u64, size: u32) -> Result<Text, AllocError>
+    ensures { IfOk result (λ text. text ≡ gen_text number size) }
+{
+    let mut line = Vec::from_slice(alloc, b"; gen number ")?;
+    put_number(&mut line, number)?;
+    line.extend_from_slice(b" size ")?;
+    put_number(&mut line, u64::from(size))?;
     line.push(b'\n')?;
     Ok(Text::of_vec(line))
 }

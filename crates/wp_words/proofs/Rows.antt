@@ -7,8 +7,8 @@ use Rattle.wp_plain.specs.declared.settings.Settings.{Settings}
 use Rattle.wp_watch.specs.declared.watch.WatchKind.{WatchKind}
 use Rattle.wp_watch.specs.declared.watch.WatchKind.TheVariants.{Tally, Trace, Fronts}
 use Rattle.wp_words.specs.declared.commands.Command.{Command}
-use Rattle.wp_words.specs.declared.commands.Command.TheVariants.{Plan, Check, Ground}
-use Rattle.wp_words.specs.CommandLines.{check_line, entries_of, ground_line, plan_line}
+use Rattle.wp_words.specs.declared.commands.Command.TheVariants.{Plan, Check, Ground, Gen}
+use Rattle.wp_words.specs.CommandLines.{check_line, entries_of, gen_line, ground_line, plan_line}
 use Rattle.wp_words.specs.Options.{options_in}
 use Rattle.wp_words.specs.Words.{command_of}
 
@@ -45,11 +45,10 @@ commands =
     ∷ (codes "ground d p --plain", None)
     ∷ (codes "fly", None)
     ∷ (codes "fly d p", None)
-    ∷ (codes "gen 7 1", None)
     ∷ []
 
 commands_read : map (λ (row : Row). command_in row.0) commands ≡ map (λ (row : Row). row.1) commands
-unfolding clap_on_literals plan_line check_line ground_line entries_of options_in
+unfolding clap_on_literals plan_line check_line ground_line gen_line entries_of options_in
 commands_read = refl
 
 abbrev settings : List Row
@@ -83,7 +82,7 @@ settings =
     ∷ []
 
 settings_read : map (λ (row : Row). command_in row.0) settings ≡ map (λ (row : Row). row.1) settings
-unfolding clap_on_literals plan_line check_line ground_line entries_of options_in
+unfolding clap_on_literals plan_line check_line ground_line gen_line entries_of options_in
 settings_read = refl
 
 abbrev watchers : List Row
@@ -102,7 +101,7 @@ watchers = (
     ∷ []
 
 watchers_read : map (λ (row : Row). command_in row.0) watchers ≡ map (λ (row : Row). row.1) watchers
-unfolding clap_on_literals plan_line check_line ground_line entries_of options_in
+unfolding clap_on_literals plan_line check_line ground_line gen_line entries_of options_in
 watchers_read = refl
 
 -- what `clap` makes of names that are given twice or cut short, of calls for help, and of words that begin with `-`
@@ -123,5 +122,29 @@ dashes =
     ∷ []
 
 dashes_read : map (λ (row : Row). command_in row.0) dashes ≡ map (λ (row : Row). row.1) dashes
-unfolding clap_on_literals plan_line check_line ground_line entries_of options_in
+unfolding clap_on_literals plan_line check_line ground_line gen_line entries_of options_in
 dashes_read = refl
+
+-- numbers and sizes, at the ends of their ranges and past them
+abbrev generated : ℕ → ℕ → Option Command
+generated number size = Some (Gen number size defaults [] false)
+
+abbrev tasks : List Row
+tasks =
+    (codes "gen 7 1", generated 7 1)
+    ∷ (codes "gen 4294967295 64", generated 4294967295 64)
+    ∷ (codes "gen 0 00000000000000000064", generated 0 64)
+    ∷ (codes "gen --plain 1 20 --budget 2000 --watch tally", Some (Gen 1 20 (record defaults { budget = 2000 }) (Tally ∷ []) true))
+    ∷ (codes "gen 4294967296 1", None)
+    ∷ (codes "gen 0 0", None)
+    ∷ (codes "gen 0 65", None)
+    ∷ (codes "gen -1 1", None)
+    ∷ (codes "gen seven 1", None)
+    ∷ (codes "gen 7", None)
+    ∷ (codes "gen 7 1 1", None)
+    ∷ (codes "gen 7 1 --size 1", None)
+    ∷ []
+
+tasks_read : map (λ (row : Row). command_in row.0) tasks ≡ map (λ (row : Row). row.1) tasks
+unfolding clap_on_literals plan_line check_line ground_line gen_line entries_of options_in
+tasks_read = refl

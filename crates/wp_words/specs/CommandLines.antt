@@ -50,6 +50,9 @@ check_line = with_positional (with_files (new_app (codes "check"))) (codes "plan
 unfoldable pub ground_line : App
 ground_line = with_files (new_app (codes "ground"))
 
+unfoldable pub gen_line : App
+gen_line = with_options (with_positional (with_positional (new_app (codes "gen")) (codes "number")) (codes "size"))
+
 -- the entries of the words; none where the command does not take them
 unfoldable pub entries_of : App → List (List ℕ) → Option (List Row)
 entries_of app words = if is_empty (fault_of app words) then Some (matches_of app words) else None

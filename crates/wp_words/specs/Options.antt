@@ -22,6 +22,11 @@ abbrev pub number_or : ℕ → ℕ → ℕ → Option (List ℕ) → Option ℕ
 number_or default low high None = Some default
 number_or default low high (Some word) = number_in low high word
 
+-- the same of a number that has to be there
+abbrev pub number_of : ℕ → ℕ → Option (List ℕ) → Option ℕ
+number_of low high None = None
+number_of low high (Some word) = number_in low high word
+
 abbrev pub kinds_or_none : Option (List ℕ) → Option (List WatchKind)
 kinds_or_none None = Some []
 kinds_or_none (Some text) = kinds_in text

@@ -3,10 +3,10 @@
 use Rattle.std.specs.Prelude.{ℕ, List, [], ◌∷◌, codes, Option, None, Some, option_and_then, if◌then◌else◌}
 use Rattle.clap.specs.Walk.{Row, first_of}
 use Rattle.wp_words.specs.declared.commands.Command.{Command}
-use Rattle.wp_words.specs.declared.commands.Command.TheVariants.{Plan, Check, Ground}
+use Rattle.wp_words.specs.declared.commands.Command.TheVariants.{Plan, Check, Ground, Gen}
 use Rattle.wp_words.specs.declared.options.Options.{Options}
-use Rattle.wp_words.specs.CommandLines.{check_line, entries_of, ground_line, plan_line}
-use Rattle.wp_words.specs.Options.{options_in}
+use Rattle.wp_words.specs.CommandLines.{check_line, entries_of, gen_line, ground_line, plan_line}
+use Rattle.wp_words.specs.Options.{number_of, options_in}
 use Rattle.wp_words.specs.Values.{is_word}
 
 abbrev pub plan_from : Option (List ℕ) → Option (List ℕ) → Option Options → Option Command
@@ -21,6 +21,10 @@ abbrev pub ground_from : Option (List ℕ) → Option (List ℕ) → Option Comm
 ground_from (Some domain) (Some problem) = Some (Ground domain problem)
 ground_from domain problem = None
 
+abbrev pub gen_from : Option ℕ → Option ℕ → Option Options → Option Command
+gen_from (Some number) (Some size) (Some options) = Some (Gen number size options.settings options.watch options.plain)
+gen_from number size options = None
+
 abbrev pub plan_in : List Row → Option Command
 plan_in entries = plan_from (first_of (codes "domain") entries) (first_of (codes "problem") entries) (options_in entries)
 
@@ -30,6 +34,11 @@ check_in entries =
 
 abbrev pub ground_in : List Row → Option Command
 ground_in entries = ground_from (first_of (codes "domain") entries) (first_of (codes "problem") entries)
+
+-- the number fits 32 bits, and a task has 64 places at most
+abbrev pub gen_in : List Row → Option Command
+gen_in entries =
+    gen_from (number_of 0 4294967295 (first_of (codes "number") entries)) (number_of 1 64 (first_of (codes "size") entries)) (options_in entries)
 
 -- plan DOMAIN PROBLEM [options]
 abbrev pub plan_of : List (List ℕ) → Option Command
@@ -43,11 +52,16 @@ check_of words = option_and_then check_in (entries_of check_line words)
 abbrev pub ground_of : List (List ℕ) → Option Command
 ground_of words = option_and_then ground_in (entries_of ground_line words)
 
+-- gen NUMBER SIZE [options]
+abbrev pub gen_of : List (List ℕ) → Option Command
+gen_of words = option_and_then gen_in (entries_of gen_line words)
+
 abbrev pub command_named : List ℕ → List (List ℕ) → Option Command
 command_named name words =
     if is_word name (codes "plan") then plan_of words else
     if is_word name (codes "check") then check_of words else
-    if is_word name (codes "ground") then ground_of words else None
+    if is_word name (codes "ground") then ground_of words else
+    if is_word name (codes "gen") then gen_of words else None
 
 abbrev pub command_of : List (List ℕ) → Option Command
 command_of [] = None

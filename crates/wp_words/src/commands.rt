@@ -29,4 +29,13 @@ pub enum Command {
         domain: Text,
         problem: Text,
     },
+
+    /// Makes a task from a number and a size, and searches for a plan of it; the others are those of `Plan`.
+    Gen {
+        number: u64,
+        size: u32,
+        settings: Settings,
+        watch: WatchKinds,
+        plain: bool,
+    },
 }

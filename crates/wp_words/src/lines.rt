@@ -4,7 +4,7 @@
 //! clauses of `clap` say exactly which words it takes and what it makes of them.
 ghost use Rattle.std.specs.Prelude.{◌≡◌, IfOk, false};
 ghost use Rattle.clap.specs.Words.{app_of, rule_of, with_rule};
-ghost use Rattle.wp_words.specs.CommandLines.{check_line, flag, ground_line, option, plan_line, positional};
+ghost use Rattle.wp_words.specs.CommandLines.{check_line, flag, gen_line, ground_line, option, plan_line, positional};
 ghost use Rattle.wp_words.specs.CommandLines.{with_files, with_flag, with_numbers, with_option, with_options, with_positional};
 
 use clap::{Arg, ArgAction, Command};
@@ -36,6 +36,15 @@ pub fn ground_line<'a>(alloc: Global) -> Result<Command<'a>, AllocError>
     ensures { IfOk result (λ line. app_of line ≡ ground_line) }
 {
     with_files(alloc, Command::new(alloc, "ground"))
+}
+
+/// `gen NUMBER SIZE [options]`.
+#[tactic(auto, unfolding(crate::specs::CommandLines::gen_line))]
+pub fn gen_line<'a>(alloc: Global) -> Result<Command<'a>, AllocError>
+    ensures { IfOk result (λ line. app_of line ≡ gen_line) }
+{
+    let line = with_positional(alloc, Command::new(alloc, "gen"), "number")?;
+    with_options(alloc, with_positional(alloc, line, "size")?)
 }
 
 fn with_files<'a>(alloc: Global, line: Command<'a>) -> Result<Command<'a>, AllocError>

@@ -4,7 +4,7 @@ ghost use Rattle.clap.specs.Words.{first_of};
 ghost use Rattle.wp_plain.specs.Ranges.{AreInRange};
 ghost use Rattle.wp_plain.specs.declared.settings.Search.TheVariants.{F5};
 ghost use Rattle.wp_words.specs.CommandLines.{entries_in};
-ghost use Rattle.wp_words.specs.Options.{is_set, kinds_or_none, number_or, options_in, search_of, search_or, settings_in};
+ghost use Rattle.wp_words.specs.Options.{is_set, kinds_or_none, number_of, number_or, options_in, search_of, search_or, settings_in};
 
 use crate::entries::value_of;
 use crate::error::WordsError;
@@ -85,6 +85,14 @@ fn number_or(matches: &ArgMatches<'_>, id: &str, default: u64, low: u64, high: u
         Some(word) => read_number(word, low, high),
         None => Some(default),
     }
+}
+
+/// The number from `low` to `high` that an entry has.
+pub fn number_of(matches: &ArgMatches<'_>, id: &str, low: u64, high: u64) -> Option<u64>
+    ensures value { result ≡ number_of low high (first_of id.now (entries_in matches.now)) }
+    ensures within { IfSome result (λ number. (low ≤ number) × (number ≤ high)) }
+{
+    read_number(value_of(matches, id)?, low, high)
 }
 
 fn kinds_or_none(alloc: Global, matches: &ArgMatches<'_>) -> Result<WatchKinds, WordsError>

@@ -2,13 +2,13 @@
 ghost use Rattle.std.specs.Prelude.{◌≡◌, IfOk, None, Some, map, string_bytes};
 ghost use Rattle.wp_words.specs.CommandLines.{entries_in};
 ghost use Rattle.wp_words.specs.Names.{HasNames, IsInRange};
-ghost use Rattle.wp_words.specs.Words.{check_in, check_of, command_named, command_of, ground_in, ground_of, plan_in, plan_of};
+ghost use Rattle.wp_words.specs.Words.{check_in, check_of, command_named, command_of, gen_in, gen_of, ground_in, ground_of, plan_in, plan_of};
 
 use crate::commands::Command;
 use crate::entries::{name_of, read_entries};
 use crate::error::WordsError;
-use crate::lines::{check_line, ground_line, plan_line};
-use crate::options::{Options, read_options};
+use crate::lines::{check_line, gen_line, ground_line, plan_line};
+use crate::options::{Options, number_of, read_options};
 use clap::ArgMatches;
 use std::alloc::Global;
 
@@ -35,6 +35,7 @@ fn command_named(alloc: Global, name: &str, words: &[String]) -> Result<Command,
         "plan" => plan_of(alloc, words),
         "check" => check_of(alloc, words),
         "ground" => ground_of(alloc, words),
+        "gen" => gen_of(alloc, words),
         _ => Err(WordsError::Usage),
     }
 }
@@ -67,6 +68,16 @@ fn ground_of(alloc: Global, words: &[String]) -> Result<Command, WordsError>
 {
     let matches = read_entries(ground_line(alloc)?, words)?;
     ground_in(alloc, &matches)
+}
+
+fn gen_of(alloc: Global, words: &[String]) -> Result<Command, WordsError>
+    ensures ok { IfOk result (λ command. gen_of (map string_bytes words.now) ≡ Some command) }
+    ensures usage { result ≡ Err WordsError.Usage → gen_of (map string_bytes words.now) ≡ None }
+    ensures names { IfOk result HasNames }
+    ensures range { IfOk result IsInRange }
+{
+    let matches = read_entries(gen_line(alloc)?, words)?;
+    gen_in(alloc, &matches)
 }
 
 fn plan_in(alloc: Global, matches: &ArgMatches<'_>) -> Result<Command, WordsError>
@@ -113,5 +124,31 @@ fn ground_in(alloc: Global, matches: &ArgMatches<'_>) -> Result<Command, WordsEr
     Ok(Command::Ground {
         domain: name_of(alloc, matches, "domain")?,
         problem: name_of(alloc, matches, "problem")?,
+    })
+}
+
+fn gen_in(alloc: Global, matches: &ArgMatches<'_>) -> Result<Command, WordsError>
+    ensures ok { IfOk result (λ command. gen_in (entries_in matches.now) ≡ Some command) }
+    ensures usage { result ≡ Err WordsError.Usage → gen_in (entries_in matches.now) ≡ None }
+    ensures names { IfOk result HasNames }
+    ensures range { IfOk result IsInRange }
+{
+    let Some(number) = number_of(matches, "number", 0, 4_294_967_295) else {
+        return Err(WordsError::Usage);
+    };
+    let Some(size) = number_of(matches, "size", 1, 64) else {
+        return Err(WordsError::Usage);
+    };
+    let Options {
+        settings,
+        watch,
+        plain,
+    } = read_options(alloc, matches)?;
+    Ok(Command::Gen {
+        number,
+        size: size as u32,
+        settings,
+        watch,
+        plain,
     })
 }

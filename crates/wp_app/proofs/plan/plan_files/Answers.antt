@@ -1,5 +1,6 @@
 use Rattle.std.proofs.lemmas.Result.{err_from_is_err_and}
-use Rattle.wp_app.specs.Output.{files_planned_step}
+use Rattle.wp_app.specs.Output.{files_planned_step, planned_step, whole}
+use Rattle.wp_app.proofs.PlanLemmas.{shows}
 use Rattle.wp_app.proofs.StepLemmas.{stops, goes_on_to}
 use Rattle.wp_app.proofs.plan.plan_files.Goals as goal
 
@@ -11,4 +12,6 @@ returns-in_err-texts-clause-follows g c list after =
 
 pub returns-clause-follows : goal.returns-clause-follows
 unfolding files_planned_step
-returns-clause-follows g c list after = goes_on_to _ c.in_ok-texts.ensures.follows (c.planned.ensures.meets list after)
+returns-clause-follows g c list after =
+    goes_on_to (planned_step whole c.args.settings.now list) c.in_ok-texts.ensures.follows
+    (shows _ whole c.args.settings.now list _ c.planned.result c.whole-shown.ensures (c.planned.ensures.meets list after))

@@ -1,4 +1,5 @@
 use Rattle.wp_app.proofs.ReplyLemmas.{follows_request}
+use Rattle.wp_app.proofs.StepLemmas.{meets_follows}
 use Rattle.wp_app.proofs.run.run_command.Goals as goal
 
 pub returns-in-Check-clause-follows : goal.returns-in-Check-clause-follows
@@ -9,3 +10,6 @@ returns-in-Ground-clause-follows g c list after = follows_request list _ _ c.in-
 
 pub returns-in-Plan-clause-follows : goal.returns-in-Plan-clause-follows
 returns-in-Plan-clause-follows g c list after = follows_request list _ _ c.in-Plan.is (c.plan_files.ensures.follows list after)
+
+pub returns-in-Gen-clause-follows : goal.returns-in-Gen-clause-follows
+returns-in-Gen-clause-follows g c list after = follows_request list _ _ c.in-Gen.is (meets_follows (c.generated.ensures.meets list after))
