@@ -110,7 +110,7 @@ module _ (costs : List ℕ) (settled : List Bool) (old new : List Waiting) (w : 
   }
 
   -- it is settled now
-  pub nearest : (read : Bool) → read ≡ get_or settled w.0.1 read → read ≡ false → IsNearest (record { costs = costs; settled = settled }) w.0.1
+  pub nearest : (read : Bool) → read ≡ get_or settled w.0.1 read → read ≡ false → IsNearest costs settled w.0.1
   nearest read is unsettled = record {
     within = known.within;
     unsettled = sym (flag read is) ∙ unsettled;
@@ -140,7 +140,7 @@ module _ (costs : List ℕ) (settled : List Bool) (old new : List Waiting) (w : 
   }
 
 pub spent : (costs : List ℕ) (settled : List Bool) (waiting : List Waiting) → IsFrontier costs settled waiting → length waiting ≡ 0 →
-    IsSpent (record { costs = costs; settled = settled })
+    IsSpent costs settled
 spent costs settled waiting at empty = λ q within unsettled. ⊎_elim
     (λ (small : get_or costs q 0 < infinite).
     let waits : Contains waiting (record { 0 = (get_or costs q 0, q) }) = at.each q within unsettled small in

@@ -49,7 +49,7 @@ module _ (acts : List Act) (state : List Bool) where
   AreOffered costs left prices = (p a : ℕ) → p < length state → IsAdder acts p a → get_or left a 0 ≡ 0 → get_or costs p 0 ≤ get_or prices a 0
 
   -- the price of such an action is the defined one
-  price-settled : (costs : List ℕ) (settled : List Bool) (left prices : List ℕ) (a : ℕ) →
+  pub price-settled : (costs : List ℕ) (settled : List Bool) (left prices : List ℕ) (a : ℕ) →
       get_or left a 0 ≡ left_of settled (act_at acts a) → get_or prices a 0 ≡ settled_price costs settled (act_at acts a) →
       get_or left a 0 ≡ 0 → get_or prices a 0 ≡ price_of costs (act_at acts a)
   price-settled costs settled left prices a left_is price_is none =
@@ -62,24 +62,31 @@ module _ (acts : List Act) (state : List Bool) where
       price_is ∙ ap (λ n. min infinite (1 + n)) sums
 
   -- ---- the end
+  -- an action that has a precondition left has an infinite price
+  pub price-open : All (IsAct (length state)) acts → (costs : List ℕ) (settled : List Bool) (left prices : List ℕ) →
+      IsCounted costs settled left prices → IsSpent costs settled → (a : ℕ) → a < length acts → 0 < get_or left a 0 →
+      infinite ≤ price_of costs (act_at acts a)
+  price-open fit costs settled left prices at spent a number some =
+      let act = act_at acts a in
+      let open_one : (q : ℕ) × In q act.pre × (not (has settled q) ≡ true) =
+      count-some (λ q. not (has settled q)) act.pre (omega (arith, at.left_is a number)) in
+      let inside : open_one.0 < length state =
+      All-contains (λ q. q < length state) act.pre open_one.0
+      (All-get_or (IsAct (length state)) acts a (act_at [] 0) number fit).needs.below (Contains-from_In open_one.0 act.pre open_one.1) in
+      let large : infinite ≤ get_or costs open_one.0 0 =
+      spent open_one.0 (omega (arith, at.size)) (not-true (has settled open_one.0) open_one.2) in
+      omega (arith, member-le-sum (λ k. get_or costs k 0) act.pre open_one.0 open_one.1)
+
   fixed : All (IsAct (length state)) acts → (costs : List ℕ) (settled : List Bool) (left prices : List ℕ) → IsCounted costs settled left prices →
-      AreOffered costs left prices → IsSpent (record { costs = costs; settled = settled }) → IsFixed acts state costs
+      AreOffered costs left prices → IsSpent costs settled → IsFixed acts state costs
   fixed fit costs settled left prices at are_offered spent = record {
     size = at.size;
     most = at.most;
     there = at.there;
     least = λ p a within adder.
-        let act = act_at acts a in
         ⊎_elim
         (λ (some : 0 < get_or left a 0).
-        let open_one : (q : ℕ) × In q act.pre × (not (has settled q) ≡ true) =
-        count-some (λ q. not (has settled q)) act.pre (omega (arith, at.left_is a adder.number)) in
-        let inside : open_one.0 < length state =
-        All-contains (λ q. q < length state) act.pre open_one.0
-        (All-get_or (IsAct (length state)) acts a (act_at [] 0) adder.number fit).needs.below (Contains-from_In open_one.0 act.pre open_one.1) in
-        let large : infinite ≤ get_or costs open_one.0 0 =
-        spent open_one.0 (omega (arith, at.size)) (not-true (has settled open_one.0) open_one.2) in
-        omega (arith, member-le-sum (λ k. get_or costs k 0) act.pre open_one.0 open_one.1, at.most p))
+        omega (arith, price-open fit costs settled left prices at spent a adder.number some, at.most p))
         (λ (none : get_or left a 0 ≤ 0).
         omega (arith, are_offered p a within adder (omega arith), price-settled costs settled left prices a (at.left_is a adder.number) (at.price_is a adder.number) (omega arith)))
         (cases_lt 0 (get_or left a 0));
@@ -204,7 +211,7 @@ module _ (acts : List Act) (state : List Bool) where
     pub offered : AreOffered costs left prices
 
   pub ends : All (IsAct (length state)) acts → (costs : List ℕ) (settled : List Bool) (left prices : List ℕ) →
-      IsSettling costs settled left prices → IsSpent (record { costs = costs; settled = settled }) → costs ≡ costs_of acts state
+      IsSettling costs settled left prices → IsSpent costs settled → costs ≡ costs_of acts state
   ends fit costs settled left prices at spent =
       (one_table acts state costs).0 (fixed fit costs settled left prices at.counted at.offered spent)
 

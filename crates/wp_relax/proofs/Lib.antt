@@ -16,6 +16,8 @@ pub mod Listed
 pub mod OrderLemmas
 pub mod FrontierLemmas
 pub mod InOrder
+pub mod Supported
 pub mod OneSettled
 pub mod Reach
+pub mod AddedAtoms
 mod Rows

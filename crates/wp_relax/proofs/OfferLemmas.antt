@@ -1,23 +1,86 @@
 -- Prices offered by one action after another.
-use Rattle.std.proofs.Common.{◌≡◌, ◌+◌, ◌++◌, ◌∷◌, [], ℕ, min, Bool, true, false, cond, List, map, get_or, sym, ap, ◌∙◌}
+use Rattle.std.proofs.Common.{◌≡◌, ◌<◌, ◌+◌, ◌++◌, ◌∷◌, [], ℕ, min, Bool, true, false, cond, None, List, length, map, take, get_or, eqb, refl, sym, ap, ◌∙◌, ⊎_elim, arith}
 use Rattle.std.specs.List.{fold, filter, range_with_len}
-use Rattle.std.proofs.lemmas.List.{map-append, append-nil}
+use Rattle.std.specs.List.Sorted.{IsStrictlyIncreasing}
+use Rattle.std.proofs.lemmas.Bool.{cases_eq, cond-true, cond-false, eq-eqb, ne_eqb}
+use Rattle.std.proofs.lemmas.List.{map-id}
+use Rattle.std.proofs.lemmas.List.FromFn.{map-range_with_len_more}
 use Rattle.std.proofs.lemmas.List.Sums.{fold-append}
 use Rattle.wp_task.specs.declared.acts.Act.{Act}
-use Rattle.wp_task.proofs.AddersLemmas.{filter-range_more}
-use Rattle.wp_relax.specs.Frontier.{offers, least_offer}
-
-fold-if : (f : ℕ → ℕ) (a x : ℕ) (xs : List ℕ) (b : Bool) →
-    fold min a (map f (xs ++ cond b (x ∷ []) [])) ≡ cond b (min (fold min a (map f xs)) (f x)) (fold min a (map f xs))
-fold-if f a x xs true = ap (fold min a) (map-append f xs (x ∷ [])) ∙ fold-append min a (map f xs) (f x ∷ [])
-fold-if f a x xs false = ap (λ l. fold min a (map f l)) (append-nil xs)
+use Rattle.wp_task.specs.Set.{lists}
+use Rattle.wp_task.proofs.AddersLemmas.{not_listed_before}
+use Rattle.wp_relax.specs.Frontier.{Front, Offered, offered_to, supporter_after, better, offers, least_offer, after_offer, after_offers}
+use Rattle.wp_relax.proofs.StepLemmas.{listed-here, listed-other}
 
 -- one action more has offered
-pub offer-range_more : (acts : List Act) (left prices costs : List ℕ) (a p before : ℕ) →
-    before ≡ least_offer acts left prices (range_with_len 0 a) costs p →
-    cond (offers acts left p a) (min before (get_or prices a 0)) before ≡ least_offer acts left prices (range_with_len 0 (a + 1)) costs p
-offer-range_more acts left prices costs a p before so_far =
-    let price : ℕ → ℕ = λ k. get_or prices k 0 in
-    ap (λ n. cond (offers acts left p a) (min n (price a)) n) so_far
-    ∙ sym (ap (λ l. fold min (get_or costs p 0) (map price l)) (filter-range_more (offers acts left p) a)
-    ∙ fold-if price (get_or costs p 0) a (filter (offers acts left p) (range_with_len 0 a)) (offers acts left p a))
+pub offers-range_more : (acts : List Act) (left prices : List ℕ) (a p : ℕ) (now : Offered) →
+    after_offers acts left prices (range_with_len 0 (a + 1)) p now
+    ≡ after_offer acts left prices p (after_offers acts left prices (range_with_len 0 a) p now) a
+offers-range_more acts left prices a p now =
+    let more : range_with_len 0 (a + 1) ≡ range_with_len 0 a ++ a ∷ [] = simp map-id at (map-range_with_len_more (λ (k : ℕ). k) 0 a a (omega arith)) in
+    ap (fold (after_offer acts left prices p) now) more ∙ fold-append (after_offer acts left prices p) now (range_with_len 0 a) (a ∷ [])
+
+-- the cost after all offers is the least of them and of the cost before
+cost-if : (acts : List Act) (left prices : List ℕ) (p a : ℕ) (now : Offered) (xs : List ℕ) (b : Bool) → offers acts left p a ≡ b →
+    fold min (cond b (min now.cost (get_or prices a 0)) now.cost) (map (λ k. get_or prices k 0) (filter (offers acts left p) xs))
+    ≡ fold min now.cost (map (λ k. get_or prices k 0) (filter (offers acts left p) (a ∷ xs)))
+cost-if acts left prices p a now xs true is =
+    let rest = filter (offers acts left p) xs in
+    sym (ap (λ (b : Bool). fold min now.cost (map (λ k. get_or prices k 0) (cond b (a ∷ rest) rest))) is)
+cost-if acts left prices p a now xs false is =
+    let rest = filter (offers acts left p) xs in
+    sym (ap (λ (b : Bool). fold min now.cost (map (λ k. get_or prices k 0) (cond b (a ∷ rest) rest))) is)
+
+cost-one : (b : Bool) (now : Offered) (a price : ℕ) → (cond b (better now a price) now).cost ≡ cond b (min now.cost price) now.cost
+cost-one true now a price = refl
+cost-one false now a price = refl
+
+pub offers-cost : (acts : List Act) (left prices : List ℕ) (p : ℕ) (xs : List ℕ) (now : Offered) (costs : List ℕ) → now.cost ≡ get_or costs p 0 →
+    (after_offers acts left prices xs p now).cost ≡ least_offer acts left prices xs costs p
+offers-cost acts left prices p xs now costs is = offers-fold xs now ∙ ap (λ n. fold min n (map (λ k. get_or prices k 0) (filter (offers acts left p) xs))) is where
+  offers-fold : (ys : List ℕ) (first : Offered) →
+      (after_offers acts left prices ys p first).cost ≡ fold min first.cost (map (λ k. get_or prices k 0) (filter (offers acts left p) ys))
+  offers-fold [] first = refl
+  offers-fold (y ∷ ys) first =
+      offers-fold ys (after_offer acts left prices p first y)
+      ∙ (ap (λ n. fold min n (map (λ k. get_or prices k 0) (filter (offers acts left p) ys))) (cost-one (offers acts left p y) first y (get_or prices y 0))
+      ∙ cost-if acts left prices p y first ys (offers acts left p y) refl)
+
+-- one atom is offered a price
+pub offered-here : (old new : Front) (p a price : ℕ) → get_or new.costs p 0 ≡ min (get_or old.costs p 0) price →
+    get_or new.supporters p None ≡ supporter_after (get_or old.costs p 0) (get_or old.supporters p None) a price →
+    ((q : ℕ) → (q ≡ p → ⊥) → get_or new.costs q 0 ≡ get_or old.costs q 0) →
+    ((q : ℕ) → (q ≡ p → ⊥) → get_or new.supporters q None ≡ get_or old.supporters q None) →
+    (q : ℕ) → offered_to new q ≡ cond (eqb p q) (better (offered_to old q) a price) (offered_to old q)
+offered-here old new p a price cost supporter costs supporters q = ⊎_elim
+    (λ (same : q ≡ p).
+    ap (offered_to new) same
+    ∙ ((λ j. record { cost = cost j; supporter = supporter j })
+    ∙ sym (ap (λ (k : ℕ). better (offered_to old k) a price) same))
+    ∙ sym (cond-true (eqb p q) (better (offered_to old q) a price) (offered_to old q) (eq-eqb p q (sym same))))
+    (λ (other : q ≡ p → ⊥).
+    (λ j. record { cost = costs q other j; supporter = supporters q other j })
+    ∙ sym (cond-false (eqb p q) (better (offered_to old q) a price) (offered_to old q) (ne_eqb p q (λ (same : p ≡ q). other (sym same)))))
+    (cases_eq q p)
+
+-- one place more of a list is offered a price
+pub offered-next : (first now new : Front) (places : List ℕ) (i a price : ℕ) → IsStrictlyIncreasing places → i < length places →
+    ((q : ℕ) → offered_to new q ≡ cond (eqb (get_or places i 0) q) (better (offered_to now q) a price) (offered_to now q)) →
+    ((q : ℕ) → offered_to now q ≡ cond (lists (take i places) q) (better (offered_to first q) a price) (offered_to first q)) →
+    (q : ℕ) → offered_to new q ≡ cond (lists (take (i + 1) places) q) (better (offered_to first q) a price) (offered_to first q)
+offered-next first now new places i a price rising within one so_far q =
+    let x = get_or places i 0 in
+    let choose : Bool → Offered = λ b. cond b (better (offered_to first q) a price) (offered_to first q) in
+    ⊎_elim
+    (λ (same : q ≡ x).
+    let none : lists (take i places) q ≡ false = ap (lists (take i places)) same ∙ not_listed_before places i rising within in
+    let before : offered_to now q ≡ offered_to first q = so_far q ∙ ap choose none in
+    one q
+    ∙ (cond-true (eqb x q) (better (offered_to now q) a price) (offered_to now q) (eq-eqb x q (sym same))
+    ∙ (ap (λ (o : Offered). better o a price) before
+    ∙ sym (ap choose (ap (lists (take (i + 1) places)) same ∙ listed-here places i within)))))
+    (λ (other : q ≡ x → ⊥).
+    one q
+    ∙ (cond-false (eqb x q) (better (offered_to now q) a price) (offered_to now q) (ne_eqb x q (λ (same : x ≡ q). other (sym same)))
+    ∙ (so_far q ∙ sym (ap choose (listed-other places i q within other)))))
+    (cases_eq q x)

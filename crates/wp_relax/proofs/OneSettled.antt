@@ -37,7 +37,7 @@ module _ (acts : List Act) (state : List Bool) where
   -- ---- an atom is settled
   module _ (fit : All (IsAct (length state)) acts) (costs : List ℕ) (settled : List Bool) (left prices now_left now_prices : List ℕ) (p : ℕ)
       (at : IsSettling acts state costs settled left prices)
-      (nearest : IsNearest (record { costs = costs; settled = settled }) p)
+      (nearest : IsNearest costs settled p)
       (left_now : (a : ℕ) → get_or now_left a 0 ≡ cond (lists (needers_of acts p) a) (get_or left a 0 - 1) (get_or left a 0))
       (prices_now : (a : ℕ) → get_or now_prices a 0
       ≡ cond (lists (needers_of acts p) a) (min infinite (get_or prices a 0 + get_or costs p 0)) (get_or prices a 0)) where

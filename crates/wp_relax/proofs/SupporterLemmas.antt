@@ -1,13 +1,16 @@
 -- A supporter attains the atom's cost, so what it needs costs less.
-use Rattle.std.proofs.Common.{◌≡◌, ◌==◌, ◌<◌, ◌≤◌, ℕ, nat_lt, Bool, true, false, cond, List, [], ◌∷◌, Option, Some, None, map, get_or, eqb, refl, sym, ap, ◌∙◌, subst, inl, inr, ⊎_elim, arith}
-use Rattle.std.specs.List.{find, sum_by}
+use Rattle.std.proofs.Common.{◌≡◌, ◌==◌, ◌<◌, ◌≤◌, ℕ, nat_lt, Bool, true, false, cond, List, [], ◌∷◌, Option, Some, None, length, map, get_or, eqb, refl, sym, ap, ◌∙◌, subst, inl, inr, ⊎_elim, arith}
+use Rattle.std.specs.Prelude.{IfSome}
+use Rattle.std.specs.List.{find, sum_by, range_with_len}
 use Rattle.std.proofs.lemmas.Bool.{cases_Bool, cond-true, cond-false, ltb-true, lt-ltb, eqb-true}
 use Rattle.std.proofs.lemmas.List.{get_or-map}
+use Rattle.std.proofs.lemmas.List.Elements.{All-map}
 use Rattle.wp_task.specs.declared.acts.Act.{Act}
 use Rattle.wp_task.specs.Set.{has}
 use Rattle.wp_task.specs.Task.{act_at, adders_of}
 use Rattle.wp_task.proofs.Members.{In, list_any-at}
-use Rattle.wp_relax.specs.AdditiveCost.{infinite, price_of, supporter_of}
+use Rattle.wp_relax.specs.AdditiveCost.{infinite, price_of, supporter_of, supporters_of}
+use Rattle.wp_relax.specs.RelaxedPlan.{AreActs}
 use Rattle.wp_relax.specs.Laws.{IsAdder, SupportersNeedLess}
 use Rattle.wp_relax.proofs.SumLemmas.{member-le-sum}
 use Rattle.wp_relax.proofs.Unique.{adder-from}
@@ -31,20 +34,6 @@ find-in t (x ∷ xs) a found = ⊎_elim
     inl same)
     (λ (later : t x ≡ false). inr (find-in t xs a (sym (ap (λ (b : Bool). cond b (Some x) (find t xs)) later) ∙ found)))
     (cases_Bool (t x))
-
--- the test may go by a table of the prices
-find-same : (t s : ℕ → Bool) (xs : List ℕ) → ((a : ℕ) → In a xs → t a ≡ s a) → find t xs ≡ find s xs
-find-same t s [] same = refl
-find-same t s (x ∷ xs) same =
-    (λ j. cond (same x (inl refl) j) (Some x) (find-same t s xs (λ a later. same a (inr later)) j))
-
-pub find-prices : (acts : List Act) (costs prices : List ℕ) (p cost : ℕ) → prices ≡ map (price_of costs) acts →
-    find (λ a. get_or prices a 0 == cost) (adders_of acts p) ≡ find (λ a. price_of costs (act_at acts a) == cost) (adders_of acts p)
-find-prices acts costs prices p cost is =
-    find-same (λ a. get_or prices a 0 == cost) (λ a. price_of costs (act_at acts a) == cost) (adders_of acts p)
-    (λ a there.
-    let adder : IsAdder acts p a = adder-from acts p a there in
-    ap (λ n. n == cost) (ap (λ (l : List ℕ). get_or l a 0) is ∙ get_or-map (price_of costs) acts a (act_at [] 0) 0 adder.number))
 
 -- the supporter of an atom that is not in the state and has a finite cost
 pub supporter_of-found : (acts : List Act) (state : List Bool) (costs : List ℕ) (p : ℕ) (found : Option ℕ) → has state p ≡ false →
@@ -103,3 +92,13 @@ supporters_need_less acts state costs p a q is needed =
     let finite : get_or costs p 0 < infinite = attains.0 in
     let priced : price_of costs act ≡ get_or costs p 0 = attains.1 in
     omega arith
+
+if_some : (n : ℕ) (o : Option ℕ) → ((a : ℕ) → o ≡ Some a → a < n) → IfSome o (λ a. a < n)
+if_some n None small = tt
+if_some n (Some a) small = small a refl
+
+pub supporters_are_acts : (acts : List Act) (state : List Bool) (costs : List ℕ) → AreActs (length acts) (supporters_of acts state costs)
+supporters_are_acts acts state costs =
+    All-map (λ (o : Option ℕ). IfSome o (λ a. a < length acts)) (supporter_of acts state costs) (range_with_len 0 (length state))
+    (λ k d within. let p = get_or (range_with_len 0 (length state)) k d in
+    if_some (length acts) (supporter_of acts state costs p) (λ a is. (supporter-adds acts state costs p a is).number))

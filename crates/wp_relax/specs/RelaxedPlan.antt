@@ -12,6 +12,11 @@ abbrev pub needs : List Act → Option ℕ → ℕ → Bool
 needs acts None q = false
 needs acts (Some a) q = lists (act_at acts a).pre q
 
+-- whether an atom's supporter, if it has one, adds q
+abbrev pub adds : List Act → Option ℕ → ℕ → Bool
+adds acts None q = false
+adds acts (Some a) q = lists (act_at acts a).add q
+
 -- whether the supporter of a wanted atom needs q
 abbrev pub is_needed : List Act → List (Option ℕ) → List Bool → ℕ → Bool
 is_needed acts supporters wanted q =
@@ -76,6 +81,11 @@ is_added acts plan q = list_any (λ a. lists (act_at acts a).add q) plan
 abbrev pub added_by : List Act → List Bool → Option (List ℕ) → List ℕ
 added_by acts state None = []
 added_by acts state (Some plan) = filter (λ q. is_added acts plan q && not (has state q)) (range_with_len 0 (length state))
+
+-- whether the supporter of a wanted atom adds q
+abbrev pub is_wanted_added : List Act → List (Option ℕ) → List Bool → ℕ → Bool
+is_wanted_added acts supporters wanted q =
+    list_any (λ p. has wanted p && adds acts (slice_index_or supporters p None) q) (range_with_len 0 (length wanted))
 
 -- the atoms that the relaxed plan adds and that are not in the state
 abbrev pub relaxed_atoms_of : List Act → List ℕ → List Bool → List ℕ

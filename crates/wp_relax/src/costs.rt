@@ -1,15 +1,15 @@
 //! The additive costs of a state.
-ghost use Rattle.std.specs.Prelude.{◌≡◌, ◌==◌, ℕ, ◌+◌, ◌<◌, ◌≤◌, map, length, slice_index, slice_index_or, IfOk, IfSome, All, None, find, nat_lt};
+ghost use Rattle.std.specs.Prelude.{◌≡◌, ◌<◌, ◌≤◌, length, slice_index, slice_index_or, IfOk, All, None, nat_lt};
 ghost use Rattle.wp_task.specs.Set.{AreAtoms};
-ghost use Rattle.wp_task.specs.Task.{IsTask};
-ghost use Rattle.wp_relax.specs.AdditiveCost.{infinite, price_of, costs_of, finite, supporter_of, supporters_of, pricing_of};
+ghost use Rattle.wp_relax.specs.AdditiveCost.{infinite, price_of, finite, pricing_of};
 ghost use Rattle.wp_relax.specs.RelaxedPlan.{AreActs};
 
-use crate::frontier::INFINITE;
-use crate::settle;
+use crate::frontier::{Frontier, INFINITE};
+use crate::pending::Pending;
+use crate::settle::settle;
 use std::alloc::{AllocError, Global};
 use std::marker::Model;
-use wp_task::{Act, Atoms, State, Task};
+use wp_task::{Act, State, Task};
 
 /// The costs of all atoms in a state, and their supporters.
 #[derive(Drop)]
@@ -38,8 +38,10 @@ impl Costs {
         ensures bounded { IfOk result (λ costs. All (λ cost. cost ≤ infinite) costs.costs) }
         ensures numbers { IfOk result (λ costs. AreActs (length task.now.acts) costs.supporters) }
     {
-        let costs = settle::settled_costs(alloc, task, s)?;
-        let supporters = supporters(alloc, task, s, &costs)?;
+        let mut frontier = Frontier::of(alloc, task.atoms())?;
+        let mut pending = Pending::of(alloc, task.act_count())?;
+        settle(&mut frontier, &mut pending, task, s)?;
+        let (costs, supporters) = frontier.into_tables();
         Ok(Costs { costs, supporters })
     }
 
@@ -60,12 +62,18 @@ impl Costs {
         self.supporters[p as usize]
     }
 
-    /// Whether the cost of an atom is finite.
-    pub(crate) fn is_finite(&self, p: u32) -> bool
-        requires { p < length self.now.costs }
-        ensures { result ≡ nat_lt (slice_index self.now.costs p) infinite }
+    /// The supporters of all atoms.
+    pub(crate) fn supporters(&self) -> &[Option<u32>]
+        ensures { result.now ≡ self.now.supporters }
     {
-        self.costs[p as usize] < INFINITE
+        self.supporters.as_slice()
+    }
+
+    /// The costs of all atoms.
+    pub(crate) fn costs(&self) -> &[u64]
+        ensures { result.now ≡ self.now.costs }
+    {
+        self.costs.as_slice()
     }
 
     /// 1 and the costs of the preconditions of an action, at most infinite.
@@ -89,67 +97,4 @@ fn price(act: &Act, costs: &[u64]) -> u64
         total = INFINITE.min(total + costs[*q as usize]);
     }
     total
-}
-
-/// The prices of all actions.
-fn prices(alloc: Global, task: &Task, costs: &[u64]) -> Result<Vec<u64>, AllocError>
-    requires size { length costs.now ≡ task.now.atoms }
-    requires bounded { All (λ cost. cost ≤ infinite) costs.now }
-    ensures { IfOk result (λ prices. prices.items ≡ map (price_of costs.now) task.now.acts) }
-{
-    let mut prices = Vec::with_capacity(alloc, task.act_count() as usize)?;
-    for a in 0..task.act_count() {
-        prices.push(price(task.act(a), costs))?;
-    }
-    Ok(prices)
-}
-
-/// The best supporters of all atoms.
-fn supporters(
-    alloc: Global,
-    task: &Task,
-    s: &State,
-    costs: &[u64],
-) -> Result<Vec<Option<u32>>, AllocError>
-    requires state { length s.now ≡ task.now.atoms }
-    requires size { length costs.now ≡ task.now.atoms }
-    requires bounded { All (λ cost. cost ≤ infinite) costs.now }
-    ensures value { IfOk result (λ supporters. supporters.items ≡ supporters_of task.now.acts s.now costs.now) }
-    ensures numbers { IfOk result (λ supporters. AreActs (length task.now.acts) supporters.items) }
-{
-    let prices = prices(alloc, task, costs)?;
-    let mut supporters = Vec::with_capacity(alloc, costs.len())?;
-    for p in 0..task.atoms() {
-        supporters.push(supporter_of(task, s, costs, &prices, p))?;
-    }
-    Ok(supporters)
-}
-
-/// The best supporter of an atom.
-fn supporter_of(task: &Task, s: &State, costs: &[u64], prices: &[u64], p: u32) -> Option<u32>
-    requires size { length costs.now ≡ task.now.atoms }
-    requires prices { prices.now ≡ map (price_of costs.now) task.now.acts }
-    requires atom { p < task.now.atoms }
-    ensures value { result ≡ supporter_of task.now.acts s.now costs.now p }
-    ensures number { IfSome result (λ a. a < length task.now.acts) }
-{
-    let cost = costs[p as usize];
-    if s.has(p) || cost >= INFINITE {
-        return None;
-    }
-    first_at(prices, task.adders(p), cost)
-}
-
-/// The first of some actions whose price is the given one.
-fn first_at(prices: &[u64], acts: &Atoms, cost: u64) -> Option<u32>
-    requires { All (λ a. a < length prices.now) acts.now }
-    ensures value { result ≡ find (λ a. slice_index prices.now a == cost) acts.now }
-    ensures number { IfSome result (λ a. a < length prices.now) }
-{
-    for a in acts.as_slice() {
-        if prices[*a as usize] == cost {
-            return Some(*a);
-        }
-    }
-    None
 }

@@ -1,5 +1,5 @@
 //! For each action what is left of its preconditions, while atoms are settled.
-ghost use Rattle.std.specs.Prelude.{◌≡◌, ◌+◌, ◌-◌, ◌<◌, ◌≤◌, ◌^◌, ℕ, min, length, map, replicate, slice_index, slice_set, IfOk, All, if◌then◌else◌};
+ghost use Rattle.std.specs.Prelude.{◌≡◌, ◌+◌, ◌-◌, ◌<◌, ◌≤◌, ℕ, min, length, map, replicate, slice_index, slice_set, IfOk, All, if◌then◌else◌};
 ghost use Rattle.std.specs.List.Sorted.{IsStrictlyIncreasing};
 ghost use Rattle.wp_task.specs.Set.{lists};
 ghost use Rattle.wp_relax.specs.AdditiveCost.{infinite};
@@ -16,14 +16,25 @@ pub(crate) struct Pending {
 }
 
 impl Pending {
-    /// Nothing is settled.
-    pub(crate) fn of(alloc: Global, task: &Task) -> Result<Pending, AllocError>
-        ensures left { IfOk result (λ pending. pending.left.items ≡ map (λ act. length act.pre) task.now.acts) }
-        ensures prices { IfOk result (λ pending. pending.prices.items ≡ replicate (length task.now.acts) 1) }
+    /// Room for so many actions.
+    pub(crate) fn of(alloc: Global, acts: u32) -> Result<Pending, AllocError>
+        ensures left { IfOk result (λ pending. length pending.left.items ≡ acts) }
+        ensures prices { IfOk result (λ pending. length pending.prices.items ≡ acts) }
     {
-        let left = Vec::from_slice(alloc, task.need_counts())?;
-        let prices = vec![in alloc; 1u64; task.act_count() as usize]?;
+        let left = vec![in alloc; 0u32; acts as usize]?;
+        let prices = vec![in alloc; 1u64; acts as usize]?;
         Ok(Pending { left, prices })
+    }
+
+    /// Nothing is settled.
+    pub(crate) fn reset(&mut self, task: &Task)
+        requires left { length self.old.left.items ≡ length task.now.acts }
+        requires prices { length self.old.prices.items ≡ length task.now.acts }
+        ensures left { self.new.left.items ≡ map (λ act. length act.pre) task.now.acts }
+        ensures prices { self.new.prices.items ≡ replicate (length task.now.acts) 1 }
+    {
+        self.left.copy_from_slice(task.need_counts());
+        self.prices.fill(1);
     }
 
     /// A precondition of the actions is settled at a cost.

@@ -4,10 +4,11 @@ ghost use Rattle.std.specs.List.{range_with_len};
 ghost use Rattle.wp_task.specs.Set.{has, lists, atoms_in};
 ghost use Rattle.wp_task.specs.Task.{act_at};
 ghost use Rattle.wp_relax.specs.AdditiveCost.{infinite, price_of};
-ghost use Rattle.wp_relax.specs.RelaxedPlan.{is_for, supports, in_order, in_reach, relaxed_plan_of, is_added, added_by, relaxed_atoms_of, AreActs};
+ghost use Rattle.wp_relax.specs.RelaxedPlan.{is_for, supports, in_order, in_reach, relaxed_plan_of, relaxed_atoms_of, AreActs};
 ghost use Rattle.wp_relax.specs.Workspace.{room_for};
 
 use crate::costs::Costs;
+use crate::frontier::INFINITE;
 use crate::wanted;
 use crate::workspace::Workspace;
 use std::alloc::{AllocError, Global};
@@ -20,10 +21,10 @@ pub fn relaxed_plan(alloc: Global, task: &Task, s: &State) -> Result<Option<Atom
     ensures numbers { IfOk result (λ plan. IfSome plan (All (λ a. a < length task.now.acts))) }
 {
     let costs = Costs::of(alloc, task, s)?;
-    if !in_reach(task.goals(), &costs) {
+    if !in_reach(task.goals(), costs.costs()) {
         return Ok(None);
     }
-    let wanted = wanted::wanted_of(alloc, task, s, &costs)?;
+    let wanted = wanted::wanted_of(alloc, task, s, costs.supporters())?;
     let plan = supporters_in_order(alloc, task, &costs, &wanted)?;
     Ok(Some(plan))
 }
@@ -34,10 +35,8 @@ pub fn relaxed_atoms(alloc: Global, task: &Task, s: &State) -> Result<Track, All
     ensures value { IfOk result (λ track. track ≡ relaxed_atoms_of task.now.acts task.now.goals s.now) }
     ensures below { IfOk result (λ track. All (λ p. p < task.now.atoms) track) }
 {
-    match relaxed_plan(alloc, task, s)? {
-        Some(plan) => added_atoms(alloc, task, s, &plan),
-        None => Ok(Track::of(Atoms::of_vec(Vec::new(alloc)))),
-    }
+    let mut work = Workspace::of(alloc, task)?;
+    relaxed_atoms_in(alloc, &mut work, task, s)
 }
 
 /// The same, made in a workspace that serves the task.
@@ -53,16 +52,15 @@ pub fn relaxed_atoms_in(
     ensures below { IfOk result (λ track. All (λ p. p < task.now.atoms) track) }
     ensures room { work.new ≡ work.old }
 {
-    let _ = work;
-    relaxed_atoms(alloc, task, s)
+    work.relaxed_atoms(alloc, task, s)
 }
 
-fn in_reach(goals: &Atoms, costs: &Costs) -> bool
-    requires { All (λ p. p < length costs.now.costs) goals.now }
-    ensures { result ≡ in_reach goals.now costs.now.costs }
+pub(crate) fn in_reach(goals: &Atoms, costs: &[u64]) -> bool
+    requires { All (λ p. p < length costs.now) goals.now }
+    ensures { result ≡ in_reach goals.now costs.now }
 {
     for p in goals.as_slice() {
-        if !costs.is_finite(*p) {
+        if costs[*p as usize] >= INFINITE {
             return false;
         }
     }
@@ -166,28 +164,13 @@ fn mark_supporter(flags: &mut Vec<bool>, supporter: Option<u32>, wanted: bool)
     }
 }
 
-/// The atoms that the actions add and that are not in the state.
-fn added_atoms(alloc: Global, task: &Task, s: &State, plan: &Atoms) -> Result<Track, AllocError>
-    requires size { length s.now ≡ task.now.atoms }
-    requires numbers { All (λ a. a < length task.now.acts) plan.now }
-    ensures value { IfOk result (λ track. track ≡ added_by task.now.acts s.now (Some plan.now)) }
-    ensures below { IfOk result (λ track. All (λ p. p < task.now.atoms) track) }
-{
-    let mut added = wanted::no_flags(alloc, s.size())?;
-    for a in plan.as_slice() {
-        wanted::mark_missing(&mut added, s, &task.act(*a).add);
-    }
-    let atoms = numbers_of(alloc, &added)?;
-    Ok(Track::of(atoms))
-}
-
 /// The numbers whose flags are set, in order.
-fn numbers_of(alloc: Global, flags: &[bool]) -> Result<Atoms, AllocError>
-    requires { length flags.now < 2 ^ 32 }
+pub(crate) fn numbers_of(alloc: Global, flags: &[bool], count: u32) -> Result<Atoms, AllocError>
+    requires { length flags.now ≡ count }
     ensures { IfOk result (λ numbers. numbers ≡ atoms_in flags.now) }
 {
     let mut numbers = Vec::new(alloc);
-    for p in 0..flags.len() as u32 {
+    for p in 0..count {
         push_if(&mut numbers, p, flags[p as usize])?;
     }
     Ok(Atoms::of_vec(numbers))

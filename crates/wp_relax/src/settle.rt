@@ -8,48 +8,56 @@ ghost use Rattle.std.specs.Prelude.{◌≡◌, ◌==◌, ◌&&◌, ◌<◌, ℕ,
 ghost use Rattle.std.specs.List.{range_with_len};
 ghost use Rattle.wp_task.specs.Set.{has, lists, AreAtoms};
 ghost use Rattle.wp_task.specs.Task.{act_at};
-ghost use Rattle.wp_relax.specs.AdditiveCost.{infinite, costs_of};
-ghost use Rattle.wp_relax.specs.Frontier.{offers, least_offer};
+ghost use Rattle.wp_relax.specs.AdditiveCost.{infinite, costs_of, supporters_of};
+ghost use Rattle.wp_relax.specs.Frontier.{offered_to, better, after_offer, after_offers};
 
-use crate::frontier::{Frontier, INFINITE};
+use crate::frontier::Frontier;
 use crate::pending::Pending;
-use std::alloc::{AllocError, Global};
-use wp_task::{Atoms, State, Task};
+use std::alloc::AllocError;
+use wp_task::{State, Task};
 
-/// The costs of all atoms in a state.
-pub(crate) fn settled_costs(alloc: Global, task: &Task, s: &State) -> Result<Vec<u64>, AllocError>
-    requires { length s.now ≡ task.now.atoms }
-    ensures { IfOk result (λ costs. costs.items ≡ costs_of task.now.acts s.now) }
+/// Settles the costs and the supporters of all atoms in a state. Nothing of what was settled before is left.
+pub(crate) fn settle(
+    frontier: &mut Frontier,
+    pending: &mut Pending,
+    task: &Task,
+    s: &State,
+) -> Result<(), AllocError>
+    requires state { length s.now ≡ task.now.atoms }
+    requires atoms { length frontier.old.costs ≡ task.now.atoms }
+    requires left { length pending.old.left.items ≡ length task.now.acts }
+    requires prices { length pending.old.prices.items ≡ length task.now.acts }
+    ensures costs { OnOk result (frontier.new.costs ≡ costs_of task.now.acts s.now) }
+    ensures supporters { OnOk result (frontier.new.supporters ≡ supporters_of task.now.acts s.now (costs_of task.now.acts s.now)) }
+    ensures atoms { length frontier.new.costs ≡ length frontier.old.costs }
+    ensures left { length pending.new.left.items ≡ length pending.old.left.items }
+    ensures prices { length pending.new.prices.items ≡ length pending.old.prices.items }
 {
-    let mut frontier = Frontier::of(alloc, task.atoms())?;
-    let mut pending = Pending::of(alloc, task)?;
-    offer_state(&mut frontier, s)?;
-    offer_all(&mut frontier, task, &pending)?;
+    frontier.reset();
+    pending.reset(task);
+    put_state(frontier, s, task.atoms())?;
+    offer_all(frontier, task, pending)?;
     while let Some(p) = frontier.settle_nearest() {
         let acts = task.needers(p);
         pending.settle_each(acts, frontier.cost(p));
-        offer_each(&mut frontier, task, &pending, acts)?;
-    }
-    Ok(frontier.into_costs())
-}
-
-/// The atoms of a state cost 0.
-fn offer_state(frontier: &mut Frontier, s: &State) -> Result<(), AllocError>
-    requires { frontier.old.costs ≡ replicate (length s.now) infinite }
-    ensures size { OnOk result (length frontier.new.costs ≡ length s.now) }
-    ensures costs { OnOk result ((p : ℕ) → p < length s.now → slice_index frontier.new.costs p ≡ (if has s.now p then 0 else infinite)) }
-    ensures settled { OnOk result (frontier.new.settled ≡ frontier.old.settled) }
-{
-    for p in 0..s.size() {
-        frontier.offer(p, first_cost(s.has(p)))?;
+        offer_each(frontier, task, pending, acts)?;
     }
     Ok(())
 }
 
-fn first_cost(there: bool) -> u64
-    ensures { result ≡ (if there then 0 else infinite) }
+/// The atoms of a state cost 0.
+fn put_state(frontier: &mut Frontier, s: &State, atoms: u32) -> Result<(), AllocError>
+    requires size { length s.now ≡ atoms }
+    requires reset { frontier.old.costs ≡ replicate atoms infinite }
+    ensures costs { OnOk result ((p : ℕ) → p < length s.now → slice_index frontier.new.costs p ≡ (if has s.now p then 0 else infinite)) }
+    ensures supporters { frontier.new.supporters ≡ frontier.old.supporters }
+    ensures settled { frontier.new.settled ≡ frontier.old.settled }
+    ensures size { length frontier.new.costs ≡ length frontier.old.costs }
 {
-    if there { 0 } else { INFINITE }
+    for p in 0..atoms {
+        frontier.put(p, s.has(p))?;
+    }
+    Ok(())
 }
 
 /// Each action offers its price, where it has no precondition.
@@ -57,9 +65,10 @@ fn offer_all(frontier: &mut Frontier, task: &Task, pending: &Pending) -> Result<
     requires size { length frontier.old.costs ≡ task.now.atoms }
     requires left { length pending.now.left.items ≡ length task.now.acts }
     requires prices { length pending.now.prices.items ≡ length task.now.acts }
-    ensures size { OnOk result (length frontier.new.costs ≡ length frontier.old.costs) }
-    ensures costs { OnOk result ((p : ℕ) → slice_index frontier.new.costs p ≡ least_offer task.now.acts pending.now.left.items pending.now.prices.items (range_with_len 0 (length task.now.acts)) frontier.old.costs p) }
-    ensures settled { OnOk result (frontier.new.settled ≡ frontier.old.settled) }
+    ensures offers { OnOk result ((p : ℕ) → offered_to frontier.new p ≡ after_offers task.now.acts pending.now.left.items pending.now.prices.items (range_with_len 0 (length task.now.acts)) p (offered_to frontier.old p)) }
+    ensures settled { frontier.new.settled ≡ frontier.old.settled }
+    ensures size { length frontier.new.costs ≡ length frontier.old.costs }
+    ensures room { length frontier.new.supporters ≡ length frontier.old.supporters }
 {
     for a in 0..task.act_count() {
         offer(frontier, task, pending, a)?;
@@ -78,9 +87,10 @@ fn offer_each(
     requires left { length pending.now.left.items ≡ length task.now.acts }
     requires prices { length pending.now.prices.items ≡ length task.now.acts }
     requires numbers { All (λ a. a < length task.now.acts) acts.now }
-    ensures size { OnOk result (length frontier.new.costs ≡ length frontier.old.costs) }
-    ensures costs { OnOk result ((p : ℕ) → slice_index frontier.new.costs p ≡ least_offer task.now.acts pending.now.left.items pending.now.prices.items acts.now frontier.old.costs p) }
-    ensures settled { OnOk result (frontier.new.settled ≡ frontier.old.settled) }
+    ensures offers { OnOk result ((p : ℕ) → offered_to frontier.new p ≡ after_offers task.now.acts pending.now.left.items pending.now.prices.items acts.now p (offered_to frontier.old p)) }
+    ensures settled { frontier.new.settled ≡ frontier.old.settled }
+    ensures size { length frontier.new.costs ≡ length frontier.old.costs }
+    ensures room { length frontier.new.supporters ≡ length frontier.old.supporters }
 {
     for a in acts {
         offer(frontier, task, pending, *a)?;
@@ -94,24 +104,26 @@ fn offer(frontier: &mut Frontier, task: &Task, pending: &Pending, a: u32) -> Res
     requires left { length pending.now.left.items ≡ length task.now.acts }
     requires prices { length pending.now.prices.items ≡ length task.now.acts }
     requires number { a < length task.now.acts }
-    ensures size { OnOk result (length frontier.new.costs ≡ length frontier.old.costs) }
-    ensures costs { OnOk result ((p : ℕ) → slice_index frontier.new.costs p ≡ (if offers task.now.acts pending.now.left.items p a then min (slice_index frontier.old.costs p) (slice_index pending.now.prices.items a) else slice_index frontier.old.costs p)) }
-    ensures settled { OnOk result (frontier.new.settled ≡ frontier.old.settled) }
+    ensures offers { OnOk result ((p : ℕ) → offered_to frontier.new p ≡ after_offer task.now.acts pending.now.left.items pending.now.prices.items p (offered_to frontier.old p) a) }
+    ensures settled { frontier.new.settled ≡ frontier.old.settled }
+    ensures size { length frontier.new.costs ≡ length frontier.old.costs }
+    ensures room { length frontier.new.supporters ≡ length frontier.old.supporters }
 {
     if pending.left[a as usize] == 0 {
-        offer_price(frontier, &task.act(a).add, pending.prices[a as usize])?;
+        offer_price(frontier, task.add(a), a, pending.prices[a as usize])?;
     }
     Ok(())
 }
 
-fn offer_price(frontier: &mut Frontier, atoms: &Atoms, price: u64) -> Result<(), AllocError>
+fn offer_price(frontier: &mut Frontier, atoms: &[u32], a: u32, price: u64) -> Result<(), AllocError>
     requires { AreAtoms (length frontier.old.costs) atoms.now }
-    ensures size { OnOk result (length frontier.new.costs ≡ length frontier.old.costs) }
-    ensures costs { OnOk result ((p : ℕ) → slice_index frontier.new.costs p ≡ (if lists atoms.now p then min (slice_index frontier.old.costs p) price else slice_index frontier.old.costs p)) }
-    ensures settled { OnOk result (frontier.new.settled ≡ frontier.old.settled) }
+    ensures offers { OnOk result ((p : ℕ) → offered_to frontier.new p ≡ (if lists atoms.now p then better (offered_to frontier.old p) a price else offered_to frontier.old p)) }
+    ensures settled { frontier.new.settled ≡ frontier.old.settled }
+    ensures size { length frontier.new.costs ≡ length frontier.old.costs }
+    ensures room { length frontier.new.supporters ≡ length frontier.old.supporters }
 {
-    for p in atoms.as_slice() {
-        frontier.offer(*p, price)?;
+    for p in atoms {
+        frontier.offer(*p, a, price)?;
     }
     Ok(())
 }

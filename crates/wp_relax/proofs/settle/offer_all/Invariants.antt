@@ -1,12 +1,13 @@
-use Rattle.std.proofs.Common.{◌≡◌, ℕ, length, get_or}
+use Rattle.std.proofs.Common.{◌≡◌, ℕ, length}
 use Rattle.std.specs.List.{range_with_len}
-use Rattle.wp_relax.specs.Frontier.{least_offer}
+use Rattle.wp_relax.specs.Frontier.{offered_to, after_offers}
 use Rattle.wp_relax.proofs.settle.offer_all.Given as goal
 
 abbrev pub invariant-loop-a : goal.invariant-loop-a
 invariant-loop-a l = record {
   size : length l.frontier.costs ≡ length l.fn.frontier.costs;
-  costs : (p : ℕ) → get_or l.frontier.costs p 0
-      ≡ least_offer l.task.acts l.pending.left.items l.pending.prices.items (range_with_len 0 l.a) l.fn.frontier.costs p;
+  room : length l.frontier.supporters ≡ length l.fn.frontier.supporters;
+  offers : (p : ℕ) → offered_to l.frontier p
+      ≡ after_offers l.task.acts l.pending.left.items l.pending.prices.items (range_with_len 0 l.a) p (offered_to l.fn.frontier p);
   settled : l.frontier.settled ≡ l.fn.frontier.settled;
 }
