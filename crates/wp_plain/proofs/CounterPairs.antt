@@ -1,14 +1,14 @@
 -- The counter pairs of a run: each is listed once, and there are at most (goals + 1) * (atoms + 1) of them.
-use Rattle.std.proofs.Common.{◌≡◌, ◌⊎◌, ◌==◌, ◌&&◌, not, ℕ, ◌+◌, ◌*◌, ◌<◌, ◌≤◌, Bool, true, false, cond, List, [], ◌∷◌, ◌++◌, Contains, get_or, length, map, refl, sym, ◌∙◌, subst, inl, inr, arith, fold}
+use Rattle.std.proofs.Common.{◌≡◌, ◌⊎◌, not, ℕ, ◌+◌, ◌*◌, ◌<◌, ◌≤◌, Bool, true, false, cond, List, [], ◌∷◌, ◌++◌, Contains, get_or, length, map, refl, sym, ◌∙◌, subst, inl, inr, arith, fold}
 use Rattle.std.proofs.Math.Nat.{mul_comm}
-use Rattle.std.proofs.lemmas.Bool.{and_parts, and_from, both_ways, eq-eqb, eqb-true}
+use Rattle.std.proofs.lemmas.Bool.{both_ways}
 use Rattle.std.proofs.lemmas.List.{get_or_default}
 use Rattle.std.proofs.lemmas.List.Sums.{count_by-le-length}
 use Rattle.std.proofs.lemmas.Nat.{mul-add-lt, same_from_place}
 use Rattle.wp_task.specs.Set.{has}
 use Rattle.wp_task.specs.Task.{PlanningTask, goal_counter}
 use Rattle.wp_task.specs.Novelty.{Generated}
-use Rattle.wp_task.proofs.Members.{In, In-from_Contains, Contains-from_In, In-map, In-map_cases, In-append_left, In-append_right, In-append_cases, list_any-at, list_any-from}
+use Rattle.wp_task.proofs.Members.{In, In-from_Contains, Contains-from_In, In-map_cases, In-append_cases}
 use Rattle.wp_plain.specs.Nodes.{Node, generated_in}
 use Rattle.wp_plain.specs.Pairs.{has_pair, with_pair, pairs_in, ArePairsOf, PairsAreListed}
 use Rattle.wp_plain.specs.Run.{Moment, run}

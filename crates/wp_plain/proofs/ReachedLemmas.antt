@@ -10,7 +10,7 @@ use Rattle.std.proofs.Math.Seq.{get_or-append_seam}
 use Rattle.wp_task.specs.Task.{PlanningTask}
 use Rattle.wp_task.specs.Novelty.{Generated}
 use Rattle.wp_count.specs.declared.brood.Child.{Child}
-use Rattle.wp_count.specs.Laws.{IsMarked, IsEvaluated, mark_of, track_after}
+use Rattle.wp_count.specs.Laws.{IsMarked, IsEvaluated, mark_of}
 use Rattle.wp_plain.specs.declared.settings.Settings.{Settings}
 use Rattle.wp_plain.specs.declared.explored.Link.{Link}
 use Rattle.wp_plain.specs.declared.explored.Way.{Way}
