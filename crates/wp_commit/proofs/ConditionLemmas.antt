@@ -21,7 +21,7 @@ use Rattle.wp_plain.specs.Nodes.{Node, generated_in}
 use Rattle.wp_plain.specs.Pairs.{has_pair, with_pair, pairs_in}
 use Rattle.wp_plain.specs.Numbers.{CountUp}
 use Rattle.wp_plain.specs.Explored.{numbered, all_numbered}
-use Rattle.wp_plain.proofs.CounterPairs.{pairs_have}
+use Rattle.wp_plain.proofs.ListLemmas.{pairs_have}
 use Rattle.wp_plain.proofs.NumberLemmas.{number_below}
 use Rattle.wp_plain.proofs.Pigeons.{AreApart}
 use Rattle.wp_commit.specs.declared.newborn.Newborn.{Newborn}

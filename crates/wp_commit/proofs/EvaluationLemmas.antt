@@ -21,7 +21,7 @@ use Rattle.wp_plain.specs.Nodes.{Successor}
 use Rattle.wp_plain.specs.Pairs.{with_pair}
 use Rattle.wp_plain.specs.Explored.{child_pair, track_at}
 use Rattle.wp_plain.specs.Expansion.{unseen}
-use Rattle.wp_plain.proofs.ChildLemmas.{unseen-few, unseen-all}
+use Rattle.wp_plain.proofs.UnseenLemmas.{unseen-few, unseen-all}
 use Rattle.wp_commit.specs.declared.evaluation.Expansion.{Expansion}
 use Rattle.wp_commit.specs.declared.searched.Searched.{Searched}
 use Rattle.wp_commit.specs.Newborns.{counters_of, AreUnopened}

@@ -29,13 +29,11 @@ use Rattle.wp_plain.specs.Pairs.{all_tuples, with_pair, pairs_in, tuple_count, e
 use Rattle.wp_plain.specs.Expansion.{path_counters, successors_of, unseen, fresh_of, node_of, borns_of, event_of}
 use Rattle.wp_plain.specs.Run.{Moment, Outcome, expanded, expand, fresh_at, children_at, all_at, nodes_at, repeats_at}
 use Rattle.wp_plain.specs.Run.Outcome.{Goes, Ends}
-use Rattle.wp_plain.specs.Explored.{bare, child_pair, all_numbered, track_at}
+use Rattle.wp_plain.specs.Numbers.{NodesAreNumbered}
+use Rattle.wp_plain.specs.Explored.{bare, child_pair, all_numbered, track_at, ChildrenAreNumbered}
 use Rattle.wp_plain.proofs.NumberLemmas.{number_below, kept-set}
-use Rattle.wp_plain.proofs.NextNodes.{node-at, generated-next, numbered-next, length-children}
 use Rattle.wp_plain.proofs.Pigeons.{AreApart}
-use Rattle.wp_plain.proofs.LimitLemmas.{unseen-apart, unseen-new}
-use Rattle.wp_plain.proofs.NodeLemmas.{pairs_in-numbered}
-use Rattle.wp_plain.proofs.ChildLemmas.{bare-children, unseen-bare, unseen-few, unseen-all, fresh-numbered}
+use Rattle.wp_plain.proofs.UnseenLemmas.{unseen-all, unseen-apart, unseen-few, unseen-new}
 use Rattle.wp_commit.specs.declared.evaluation.Expansion.{Expansion}
 use Rattle.wp_commit.specs.declared.newborn.Newborn.{Newborn}
 use Rattle.wp_commit.specs.declared.searched.Searched.{Searched}
@@ -51,6 +49,15 @@ use Rattle.wp_commit.proofs.NewbornLemmas.{shown_newborn, stays, shown-kept, sho
 map-twice : {X Y Z : Type 0} (f : X → Y) (h : Y → Z) (g : X → Z) → ((x : X) → h (f x) ≡ g x) → (xs : List X) → map h (map f xs) ≡ map g xs
 map-twice f h g same [] = refl
 map-twice f h g same (x ∷ xs) = λ j. same x j ∷ map-twice f h g same xs j
+
+-- the laws that an expansion needs: children are evaluated as their paths say, and nodes and children are numbered
+pub record ExpansionLaws : Type 0 where
+  pub evaluated : ChildrenAreEvaluated
+  pub children : ChildrenAreNumbered
+  pub nodes : NodesAreNumbered
+
+pub laws_of : ChildrenAreEvaluated → ChildrenAreNumbered → NodesAreNumbered → ExpansionLaws
+laws_of evaluated children nodes = record { evaluated = evaluated; children = children; nodes = nodes }
 
 -- ---- the definition's expansion, by its test
 module _ (task : PlanningTask) (settings : Settings) (m : Moment) (node : Node) where
@@ -113,7 +120,7 @@ module _ (task : PlanningTask) (settings : Settings) (s : Searched) (tables : No
       omega arith
 
   -- ---- its children
-  module _ (law : ChildrenAreEvaluated) (brood fresh : List Child)
+  module _ (law : ExpansionLaws) (brood fresh : List Child)
       (brood_is : brood ≡ children_of task k.state k.mark (track_at s.nodes.tracks k.mark.track))
       (fresh_is : fresh ≡ unseen (λ c. c.state) (map (λ x. x.state) s.nodes.kept) brood) where
     abbrev track : List ℕ
@@ -137,21 +144,21 @@ module _ (task : PlanningTask) (settings : Settings) (s : Searched) (tables : No
         (unseen-all (λ c. c.state) (IsEvaluated task path.states track) (map (λ x. x.state) s.nodes.kept) brood
         (subst (All (IsEvaluated task path.states track)) (sym brood_is)
         (subst (λ states. All (IsEvaluated task states track) (children_of task k.state k.mark track)) states
-        (law task k.state on.before k.mark track on.marked))))
+        (law.evaluated task k.state on.before k.mark track on.marked))))
 
     state-is : node.generated.state ≡ k.state
     state-is = ap (λ (x : Generated × ℕ). x.0.state) (sym shown-taken)
 
     successors-are : successors_of task.acts node.generated.state ≡ map bare brood
-    successors-are = ap (successors_of task.acts) state-is ∙ (sym (bare-children task k.state k.mark track) ∙ ap (map bare) (sym brood_is))
+    successors-are = ap (successors_of task.acts) state-is ∙ (sym (law.children.successors task k.state k.mark track) ∙ ap (map bare) (sym brood_is))
 
     pub fresh-are : fresh_at task m node ≡ map bare fresh
     fresh-are =
         (λ j. unseen (λ x. x.state) (sym (states-kept s.nodes.kept m.nodes at.holds.nodes.nodes_are) j) (successors-are j))
-        ∙ (unseen-bare (map (λ x. x.state) s.nodes.kept) brood ∙ ap (map bare) (sym fresh_is))
+        ∙ (law.children.fresh (map (λ x. x.state) s.nodes.kept) brood ∙ ap (map bare) (sym fresh_is))
 
     children-are : children_at task m node ≡ nums
-    children-are = ap (fresh_of (path_counters task) path.states n) fresh-are ∙ sym (fresh-numbered task path.states track n fresh evaluated)
+    children-are = ap (fresh_of (path_counters task) path.states n) fresh-are ∙ sym (law.children.numbered task path.states track n fresh evaluated)
 
     pub all-are : all_at task m node ≡ all
     all-are = ap (λ l. generated_in m.nodes ++ l) children-are
@@ -176,7 +183,7 @@ module _ (task : PlanningTask) (settings : Settings) (s : Searched) (tables : No
     pairs-are pairs pairs_is =
         pairs_is
         ∙ (ap (λ ps. fold with_pair ps (map child_pair fresh)) at.holds.words.pairs
-        ∙ (pairs_in-numbered (generated_in m.nodes) n fresh ∙ ap pairs_in (sym all-are)))
+        ∙ (law.children.pairs (generated_in m.nodes) n fresh ∙ ap pairs_in (sym all-are)))
 
     pub needed-is : (pairs : List Pair) →
         map counters_of (keys_of tables.tables ++ pairs) ≡ fold with_pair (map counters_of (keys_of tables.tables)) (map child_pair fresh) →
@@ -205,14 +212,14 @@ module _ (task : PlanningTask) (settings : Settings) (s : Searched) (tables : No
           ∙ (λ j. length-set m.nodes node.generated.number (left node) j + count j) where
             count : length (nodes_at task settings m node) ≡ length fresh
             count =
-                length-children (path_counters task) settings (all_at task m node) path n (fresh_at task m node)
+                (law.nodes.stays task settings m node at.holds.numbers at.there).children
                 ∙ (ap length fresh-are ∙ length-map fresh bare)
 
       nodes-later : map shown_kept later.nodes.kept ≡ map shown (filter (λ x. x.kept) next.nodes)
       nodes-later =
           let earlier = without m.nodes node in
           let old : map shown (filter (λ x. x.kept) earlier) ≡ map shown (filter (λ x. x.kept) m.nodes) =
-          kept-set shown (λ x. x.kept) m.nodes node.generated.number (left node) node (node-at task settings m node at.holds.numbers node_there node) refl refl in
+          kept-set shown (λ x. x.kept) m.nodes node.generated.number (left node) node ((law.nodes.stays task settings m node at.holds.numbers at.there).place node) refl refl in
           let born : map shown (filter (λ x. x.kept) (nodes_at task settings m node)) ≡ map shown_newborn (filter (stays settings) newborns) =
           ap (λ l. map shown (filter (λ x. x.kept) l)) nodes-are
           ∙ (shown-nodes settings all n fresh ∙ ap (λ l. map shown_newborn (filter (stays settings) l)) (sym newborns_are)) in
@@ -310,9 +317,9 @@ module _ (task : PlanningTask) (settings : Settings) (s : Searched) (tables : No
       pub holds-next : StandsFor words (map birth_of all) → keys_of words.tables ≡ keys_of tables.tables ++ pairs →
           words.index ≡ tables.index → words.limit ≡ tables.limit → HoldsAt task settings later words next
       holds-next births keys index limit =
-          let generated : generated_in next.nodes ≡ all_at task m node = generated-next task settings m node at.holds.numbers node_there in
+          let generated : generated_in next.nodes ≡ all_at task m node = (law.nodes.stays task settings m node at.holds.numbers at.there).generated in
           record {
-            numbers = numbered-next task settings m node at.holds.numbers node_there;
+            numbers = (law.nodes.stays task settings m node at.holds.numbers at.there).numbered;
             nodes = record {
               nodes_are = nodes-later;
               on_paths = λ x there. on-later x (In-from_Contains x later.nodes.kept there);
@@ -329,7 +336,7 @@ module _ (task : PlanningTask) (settings : Settings) (s : Searched) (tables : No
 -- ---- an expansion as it is carried out
 -- the children of a kept node are evaluated, the repeats among them are out, and the pairs that are to be opened are listed
 pub record IsEvaluatedAt (task : PlanningTask) (s : Searched) (tables : NoveltyTables) (number : ℕ) (k : Kept) (brood fresh : List Child) (pairs : List Pair) : Type 0 where
-  pub law : ChildrenAreEvaluated
+  pub law : ExpansionLaws
   pub linked : AreLinked s.nodes
   pub there : Contains s.nodes.kept k
   pub named : k.number ≡ number
@@ -431,7 +438,7 @@ module _ (task : PlanningTask) (settings : Settings) (s : Searched) (tables : No
       )
 
 -- an expansion that was evaluated is such a one
-pub in_hand : (task : PlanningTask) (s : Searched) (tables : NoveltyTables) (number : ℕ) (x : Expansion) → ChildrenAreEvaluated →
+pub in_hand : (task : PlanningTask) (s : Searched) (tables : NoveltyTables) (number : ℕ) (x : Expansion) → ExpansionLaws →
     (e : IsExpansionOf task s tables number x) →
     IsEvaluatedAt task s tables number e.node (brood_of task s.nodes e.node) x.fresh.items x.pairs.items
 in_hand task s tables number x law e = record {

@@ -15,7 +15,7 @@ use Rattle.wp_plain.specs.declared.settings.Settings.{Settings}
 use Rattle.wp_plain.specs.Nodes.{Node, Path, no_path, extended}
 use Rattle.wp_plain.specs.Expansion.{keeps, node_of}
 use Rattle.wp_plain.specs.Explored.{bare, numbered, all_numbered, track_at, track_number}
-use Rattle.wp_plain.proofs.ReachedLemmas.{track-kept}
+use Rattle.wp_plain.proofs.ListLemmas.{track-kept}
 use Rattle.wp_commit.specs.declared.newborn.Newborn.{Newborn}
 use Rattle.wp_commit.specs.Newborns.{newborns_of, kept_as, with_newborns, waiting_of}
 use Rattle.wp_commit.specs.Searched.{shown_kept, shown}

@@ -22,16 +22,6 @@ pub Steps-same : (task : PlanningTask) (settings : Settings) (outcome other : Ou
 Steps-same task settings outcome other m places later None same went = (went.0, went.1, same ∙ went.2, went.3)
 Steps-same task settings outcome other m places later (Some end) same went = (went.0, same ∙ went.1, went.2)
 
--- where the budget is spent
-pub look_at-spent : (task : PlanningTask) (settings : Settings) (m : Moment) (node : Node) → (node.generated.counters.0 == 0) ≡ false →
-    (length m.events == settings.budget) ≡ true → look_at task settings (all_tuples task settings) m (Some node) ≡ Ends Budget
-look_at-spent task settings m node unmet spent =
-    ap (λ b. elim b as (λ _. Outcome) [
-      | true ↦ Ends (Found (path_at m.paths node.generated.number).acts)
-      | false ↦ elim (length m.events == settings.budget) as (λ _. Outcome) [ true ↦ Ends Budget | false ↦ expand task settings (all_tuples task settings) m node ]
-    ]) unmet
-    ∙ ap (λ b. elim b as (λ _. Outcome) [ true ↦ Ends Budget | false ↦ expand task settings (all_tuples task settings) m node ]) spent
-
 -- the plans of a moment follow the links of the kept nodes
 pub plans-follow : (task : PlanningTask) (nodes : Keeping) (m : Moment) → AreKept task nodes m → FollowLinks nodes.kept (plans_in m.paths)
 plans-follow task nodes m are =

@@ -11,10 +11,9 @@ use Rattle.wp_queue.specs.declared.queue.Waiting.{Waiting}
 use Rattle.wp_queue.specs.OpenList.{waiting, IsBefore, IsTaken}
 use Rattle.wp_nodes.specs.declared.kept.Kept.{Kept}
 use Rattle.wp_plain.specs.declared.settings.Settings.{Settings}
-use Rattle.wp_plain.specs.Nodes.{Node, comes_before, first_waiting, IsFirst, left}
+use Rattle.wp_plain.specs.Nodes.{FirstIsLeast, Node, comes_before, first_waiting, IsFirst, left}
 use Rattle.wp_plain.specs.Run.{Moment}
 use Rattle.wp_plain.specs.Numbers.{CountUp}
-use Rattle.wp_plain.proofs.FirstLemmas.{first_is_least}
 use Rattle.wp_plain.proofs.NumberLemmas.{number_below, one_node, node_there, CountUp-set, In-set_cases}
 use Rattle.wp_commit.specs.declared.searched.Searched.{Searched}
 use Rattle.wp_commit.specs.Searched.{shown_kept, shown, IsWaiting, AreWaiting, HoldsAt, StandsAt, IsTakenAt, without}
@@ -112,8 +111,8 @@ module _ (nodes : List Node) (counts : CountUp 0 nodes) (queue new : List Waitin
       kept = λ node there waits. are.kept node (was_there node there waits) waits;
     }
 
-  pub taken_node : IsTakenNode nodes new number
-  taken_node = by (first_waiting nodes) refl (first_is_least.found nodes) where
+  pub taken_node : FirstIsLeast → IsTakenNode nodes new number
+  taken_node least = by (first_waiting nodes) refl (least.found nodes) where
     by : (o : Option Node) → first_waiting nodes ≡ o → MatchOption o ((x : Node) → Contains nodes x → x.waits ≡ false) (IsFirst nodes) →
         IsTakenNode nodes new number
     by None is none =
@@ -129,8 +128,8 @@ module _ (nodes : List Node) (counts : CountUp 0 nodes) (queue new : List Waitin
     }
 
 -- nothing waits where the open list is empty
-pub none_taken : (nodes : List Node) (queue : List Waiting) → AreWaiting queue nodes → queue ≡ [] → first_waiting nodes ≡ None
-none_taken nodes queue are empty = by (first_waiting nodes) refl (first_is_least.found nodes) where
+pub none_taken : FirstIsLeast → (nodes : List Node) (queue : List Waiting) → AreWaiting queue nodes → queue ≡ [] → first_waiting nodes ≡ None
+none_taken least nodes queue are empty = by (first_waiting nodes) refl (least.found nodes) where
   by : (o : Option Node) → first_waiting nodes ≡ o → MatchOption o ((x : Node) → Contains nodes x → x.waits ≡ false) (IsFirst nodes) →
       first_waiting nodes ≡ None
   by None is none = is
@@ -163,9 +162,9 @@ module _ (task : PlanningTask) (settings : Settings) (s : Searched) (tables : No
     pub first : first_waiting m.nodes ≡ Some node
     pub taken : IsTakenAt task settings (record s { queue = new }) tables m node number
 
-  pub taken_first : (new : List Waiting) (number : ℕ) → StandsAt task settings s tables m → IsTaken s.queue new number → IsTakenFirst new number
-  taken_first new number stands taken =
-      let found = taken_node m.nodes stands.holds.numbers.numbers s.queue new number stands.waiting taken in
+  pub taken_first : FirstIsLeast → (new : List Waiting) (number : ℕ) → StandsAt task settings s tables m → IsTaken s.queue new number → IsTakenFirst new number
+  taken_first least new number stands taken =
+      let found = taken_node m.nodes stands.holds.numbers.numbers s.queue new number stands.waiting taken least in
       record {
         node = found.node;
         first = found.first;

@@ -21,7 +21,10 @@ use std::alloc::{AllocError, Global};
 use std::thread::Threads;
 use wp_count::counters_are_carried;
 use wp_novel::Tables;
-use wp_plain::{Counts, Ending, How, Settings, endings_answer, exceeds, tuple_count};
+use wp_plain::{
+    Counts, Ending, How, Settings, children_are_numbered, endings_answer, exceeds, first_is_least,
+    nodes_are_numbered, steps_are_taken, tuple_count,
+};
 use wp_task::Task;
 use wp_tuples::TupleIndex;
 use wp_watch::{Watchers, places_follow};
@@ -115,6 +118,8 @@ fn take_steps(
         (progress searched.new tables.new (places_in kind until told watchers.new))) }
     ensures same { OnOk result (run.new ≡ run.old) }
 {
+    // By this law a run goes on where a step does, and ends where it does.
+    steps_are_taken();
     for _step in 0..run.settings.budget + 1 {
         if let Some(how) = step(run, searched, tables, watchers)? {
             return Ok(how);
@@ -136,6 +141,8 @@ fn step(
         (progress searched.new tables.new (places_in kind until told watchers.new))) }
     ensures same { OnOk result (run.new ≡ run.old) }
 {
+    // By this law the node that is taken is the definition's first one.
+    first_is_least();
     match searched.queue.take() {
         Some(number) => look_at(run, searched, tables, number, watchers),
         None => Ok(Some(How::Emptied)),
@@ -157,6 +164,8 @@ fn look_at(
         (progress searched.new tables.new (places_in kind until told watchers.new))) }
     ensures same { OnOk result (run.new ≡ run.old) }
 {
+    // By this law the tests here are those of the definition.
+    steps_are_taken();
     if node_at(run, searched, tables, number).mark.g == 0 {
         let plan = searched.nodes.plan_to(run.alloc, number)?;
         return Ok(Some(How::Found { plan }));
@@ -183,8 +192,10 @@ fn expand(
     ensures same { OnOk result (run.new ≡ run.old) }
 {
     // By the law of the counters those of the children are those of their whole paths; by the law of places the watchers
-    // can be told one more event.
+    // can be told one more event. Nodes and children are numbered as the definition's are.
     counters_are_carried();
+    children_are_numbered();
+    nodes_are_numbered();
     places_follow();
     let node = node_at(run, searched, tables, number);
     let settings = run.settings;

@@ -19,6 +19,7 @@ use crate::searched::{Searched, node_at};
 use std::alloc::{AllocError, Global};
 use wp_count::{Child, counters_are_carried};
 use wp_novel::{Birth, Births, Pair, Tables};
+use wp_plain::{children_are_numbered, nodes_are_numbered};
 
 /// An expansion whose children are numbered: they stand here with their novelties.
 #[derive(Drop)]
@@ -43,6 +44,8 @@ pub(crate) fn enter(
     ensures { IfOk result (IsEnteredOf run.now.task run.now.settings searched.now tables.old number expansion tables.new) }
 {
     counters_are_carried();
+    children_are_numbered();
+    nodes_are_numbered();
     let Expansion {
         fresh,
         repeats,

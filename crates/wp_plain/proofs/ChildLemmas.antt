@@ -14,7 +14,6 @@ use Rattle.wp_plain.specs.Nodes.{Successor}
 use Rattle.wp_plain.specs.Expansion.{path_counters, successors_of, unseen, generated_at, fresh_of}
 use Rattle.wp_plain.specs.Explored.{bare, numbered, all_numbered, ChildrenAreNumbered}
 use Rattle.wp_plain.proofs.NodeLemmas.{pairs_in-numbered}
-pub use Rattle.wp_plain.proofs.UnseenLemmas.{unseen-few, unseen-all}
 
 map-made : {X Y Z : Type 0} (f : X → Y) (h : Y → Z) (g : X → Z) → ((x : X) → h (f x) ≡ g x) → (xs : List X) → map h (map f xs) ≡ map g xs
 map-made f h g same [] = refl

@@ -1,49 +1,23 @@
 -- The counter pairs of a run: each is listed once, and there are at most (goals + 1) * (atoms + 1) of them.
-use Rattle.std.proofs.Common.{◌≡◌, ◌⊎◌, ◌==◌, ◌&&◌, not, ℕ, ◌+◌, ◌*◌, ◌<◌, ◌≤◌, Bool, true, false, cond, List, [], ◌∷◌, ◌++◌, Contains, get_or, length, map, refl, sym, ◌∙◌, subst, inl, inr, arith, fold}
+use Rattle.std.proofs.Common.{◌≡◌, ◌⊎◌, not, ℕ, ◌+◌, ◌*◌, ◌<◌, ◌≤◌, Bool, true, false, cond, List, [], ◌∷◌, ◌++◌, Contains, get_or, length, map, refl, sym, ◌∙◌, subst, inl, inr, arith, fold}
 use Rattle.std.proofs.Math.Nat.{mul_comm}
-use Rattle.std.proofs.lemmas.Bool.{and_parts, and_from, both_ways, eq-eqb, eqb-true}
+use Rattle.std.proofs.lemmas.Bool.{both_ways}
 use Rattle.std.proofs.lemmas.List.{get_or_default}
 use Rattle.std.proofs.lemmas.List.Sums.{count_by-le-length}
 use Rattle.std.proofs.lemmas.Nat.{mul-add-lt, same_from_place}
 use Rattle.wp_task.specs.Set.{has}
 use Rattle.wp_task.specs.Task.{PlanningTask, goal_counter}
 use Rattle.wp_task.specs.Novelty.{Generated}
-use Rattle.wp_task.proofs.Members.{In, In-from_Contains, Contains-from_In, In-map, In-map_cases, In-append_left, In-append_right, In-append_cases, list_any-at, list_any-from}
+use Rattle.wp_task.proofs.Members.{In, In-from_Contains, Contains-from_In, In-map_cases, In-append_cases}
 use Rattle.wp_plain.specs.Nodes.{Node, generated_in}
 use Rattle.wp_plain.specs.Pairs.{has_pair, with_pair, pairs_in, ArePairsOf, PairsAreListed}
 use Rattle.wp_plain.specs.Run.{Moment, run}
 use Rattle.wp_plain.specs.Laws.{PairsAreFew}
 use Rattle.wp_plain.proofs.Pigeons.{AreApart, AreApart-append, apart_pairs, pairs_apart, pigeons}
 use Rattle.wp_plain.proofs.TraceLemmas.{AreTraced, ended}
-
-there-from_has_pair : (pairs : List (ℕ × ℕ)) (p : ℕ × ℕ) → has_pair pairs p ≡ true → In p pairs
-there-from_has_pair pairs p is =
-    let found : (q : ℕ × ℕ) × In q pairs × (((q.0 == p.0) && (q.1 == p.1)) ≡ true) =
-    list_any-at (λ (q : ℕ × ℕ). (q.0 == p.0) && (q.1 == p.1)) pairs is in
-    let parts = and_parts (found.0.0 == p.0) (found.0.1 == p.1) found.2 in
-    let same : found.0 ≡ p = λ j. (eqb-true found.0.0 p.0 parts.0 j, eqb-true found.0.1 p.1 parts.1 j) in
-    subst (λ q. In q pairs) same found.1
-
-has_pair-from_there : (pairs : List (ℕ × ℕ)) (p : ℕ × ℕ) → In p pairs → has_pair pairs p ≡ true
-has_pair-from_there pairs p there =
-    list_any-from (λ (q : ℕ × ℕ). (q.0 == p.0) && (q.1 == p.1)) pairs p there
-    (and_from (p.0 == p.0) (p.1 == p.1) (eq-eqb p.0 p.0 refl) (eq-eqb p.1 p.1 refl))
+use Rattle.wp_plain.proofs.ListLemmas.{has_pair-from_there, pairs_have}
 
 -- ---- one pair after another
-fold-has : (seen xs : List (ℕ × ℕ)) (p : ℕ × ℕ) → In p seen ⊎ In p xs → In p (fold with_pair seen xs)
-fold-has seen [] p (inl old) = old
-fold-has seen [] p (inr none) = absurd none
-fold-has seen (x ∷ xs) p there = by (has_pair seen x) refl there (λ more. fold-has more xs p) where
-  by : (b : Bool) → has_pair seen x ≡ b → In p seen ⊎ In p (x ∷ xs) →
-      ((more : List (ℕ × ℕ)) → In p more ⊎ In p xs → In p (fold with_pair more xs)) →
-      In p (fold with_pair (cond b seen (seen ++ x ∷ [])) xs)
-  by true is (inl old) rest = rest seen (inl old)
-  by true is (inr (inl same)) rest = rest seen (inl (subst (λ q. In q seen) (sym same) (there-from_has_pair seen x is)))
-  by true is (inr (inr later)) rest = rest seen (inr later)
-  by false is (inl old) rest = rest (seen ++ x ∷ []) (inl (In-append_left seen (x ∷ []) p old))
-  by false is (inr (inl same)) rest = rest (seen ++ x ∷ []) (inl (In-append_right seen (x ∷ []) p (inl same)))
-  by false is (inr (inr later)) rest = rest (seen ++ x ∷ []) (inr later)
-
 fold-from : (seen xs : List (ℕ × ℕ)) (p : ℕ × ℕ) → In p (fold with_pair seen xs) → In p seen ⊎ In p xs
 fold-from seen [] p there = inl there
 fold-from seen (x ∷ xs) p there = by (has_pair seen x) there (λ more. fold-from more xs p) where
@@ -76,9 +50,6 @@ fold-apart seen (x ∷ xs) apart = by (has_pair seen x) refl (λ more. fold-apar
         | inl same ↦ both_ways (has_pair seen x) is (has_pair-from_there seen x (subst (λ q. In q seen) same old))
         | inr none ↦ none
       ]))
-
-pub pairs_have : (xs : List Generated) (x : Generated) → In x xs → In x.counters (pairs_in xs)
-pairs_have xs x there = fold-has [] (map (λ y. y.counters) xs) x.counters (inr (In-map (λ y. y.counters) xs x there))
 
 -- ---- how many there are
 pub pairs_few : (goals atoms : ℕ) (xs : List Generated) → ((x : Generated) → In x xs → (x.counters.0 ≤ goals) × (x.counters.1 ≤ atoms)) →

@@ -27,7 +27,7 @@ use Rattle.wp_plain.proofs.EmptiedLemmas.{IsOpen, emptied_is_closed, keeps-open,
 use Rattle.wp_plain.proofs.CounterPairs.{traced-few}
 use Rattle.wp_plain.proofs.Pigeons.{AreApart, AreApart-append, apart_pairs, pigeons}
 use Rattle.wp_plain.proofs.SparseLemmas.{kept_at_end}
-pub use Rattle.wp_plain.proofs.UnseenLemmas.{unseen-apart, unseen-new}
+use Rattle.wp_plain.proofs.UnseenLemmas.{unseen-apart, unseen-new}
 
 -- ---- how many tuples there are
 pub tuples_are_counted : TuplesAreCounted

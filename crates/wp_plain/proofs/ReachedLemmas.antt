@@ -10,12 +10,13 @@ use Rattle.std.proofs.Math.Seq.{get_or-append_seam}
 use Rattle.wp_task.specs.Task.{PlanningTask}
 use Rattle.wp_task.specs.Novelty.{Generated}
 use Rattle.wp_count.specs.declared.brood.Child.{Child}
-use Rattle.wp_count.specs.Laws.{IsMarked, IsEvaluated, mark_of, track_after}
+use Rattle.wp_count.specs.Laws.{IsMarked, IsEvaluated, mark_of}
 use Rattle.wp_plain.specs.declared.settings.Settings.{Settings}
 use Rattle.wp_plain.specs.declared.explored.Link.{Link}
 use Rattle.wp_plain.specs.declared.explored.Way.{Way}
 use Rattle.wp_plain.specs.Nodes.{Path, no_path, path_at, extended}
 use Rattle.wp_plain.specs.Explored.{no_node, no_way, node_at, way_at, track_at, path_over, states_before, bare, next_node, track_number, way_of, with_child, with_children, Lists, IsReached, AreReached}
+use Rattle.wp_plain.proofs.ListLemmas.{track_at-more, track-kept}
 
 -- ---- what stands in the lists stays
 pub path_at-more : (paths more : List Path) (k : ℕ) → k < length paths → path_at (paths ++ more) k ≡ path_at paths k
@@ -32,9 +33,6 @@ states_before-more : (paths more : List Path) (back : Option Link) (k : ℕ) →
 states_before-more paths more None k below within = refl
 states_before-more paths more (Some link) k below within = ap (λ p. p.states) (path_at-more paths more link.parent (omega arith))
 
-track_at-more : (tracks more : List (List ℕ)) (k : ℕ) → k < length tracks → track_at (tracks ++ more) k ≡ track_at tracks k
-track_at-more tracks more k within = get_or_append_left tracks more [] k within
-
 reached-more : (task : PlanningTask) (paths more : List Path) (tracks fresh : List (List ℕ)) (k : ℕ) (x : Generated) (way : Way) →
     IsReached task paths tracks k x way → k < length paths → IsReached task (paths ++ more) (tracks ++ fresh) k x way
 reached-more task paths more tracks fresh k x way h within = record {
@@ -49,14 +47,6 @@ reached-more task paths more tracks fresh k x way h within = record {
 }
 
 -- ---- one more child
-pub track-kept : (tracks : List (List ℕ)) (track : ℕ) (t : List ℕ) (fresh : Option (List ℕ)) → track < length tracks → track_at tracks track ≡ t →
-    (track_number (length tracks) track fresh < length (tracks ++ option_to_list fresh))
-    × (track_at (tracks ++ option_to_list fresh) (track_number (length tracks) track fresh) ≡ track_after t fresh)
-track-kept tracks track t None within is =
-    (omega (arith, length-append tracks []), track_at-more tracks [] track within ∙ is)
-track-kept tracks track t (Some fresh) within is =
-    (omega (arith, length-append tracks (fresh ∷ [])), get_or-append_seam tracks fresh [] [])
-
 -- what holds at each place of two lists and of one more item
 each-pushed : {X Y : Type 0} (P : ℕ → X → Y → Type 0) (xs : List X) (ys : List Y) (x d : X) (y e : Y) → length ys ≡ length xs →
     ((k : ℕ) → k < length xs → P k (get_or xs k d) (get_or ys k e)) → P (length xs) x y →

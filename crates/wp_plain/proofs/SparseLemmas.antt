@@ -19,7 +19,7 @@ use Rattle.wp_plain.proofs.NumberLemmas.{number_from, number_below, one_node}
 use Rattle.wp_plain.proofs.NextNodes.{IsNext, next, next_cases, generated-next}
 use Rattle.wp_plain.proofs.NextNodes.IsNext.{expanded_one, older, child}
 use Rattle.wp_plain.proofs.TraceLemmas.{Keeps, IsEnded, ended, traced-next}
-use Rattle.wp_plain.proofs.CounterPairs.{pairs_have}
+use Rattle.wp_plain.proofs.ListLemmas.{pairs_have}
 use Rattle.wp_plain.proofs.Pigeons.{AreApart, AreApart-filter, pigeons}
 use Rattle.wp_plain.proofs.NewTuples.{HasTuple, has_tuple, fresh-later, new-later}
 

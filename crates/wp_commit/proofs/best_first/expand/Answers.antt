@@ -11,7 +11,7 @@ use Rattle.wp_plain.specs.Run.Outcome.{Ends}
 use Rattle.wp_commit.specs.Asked.{Asked}
 use Rattle.wp_commit.specs.Newborns.{event_as, IsCommitted}
 use Rattle.wp_commit.specs.Expansions.{brood_of, IsEnteredOf}
-use Rattle.wp_commit.proofs.ExpansionLemmas.{goes, in_hand, kept-few, needed-few, newborns-fit, words-end}
+use Rattle.wp_commit.proofs.ExpansionLemmas.{goes, in_hand, laws_of, kept-few, needed-few, newborns-fit, words-end}
 use Rattle.wp_commit.proofs.NewbornLemmas.{length-newborns}
 use Rattle.wp_commit.proofs.TellingLemmas.{told-more, can-tell}
 use Rattle.wp_commit.proofs.best_first.expand.Goals as goal
@@ -33,7 +33,7 @@ overflow_add-needed g c =
     omega (arith, e.few, c.atoms.ensures.fits.few_acts, ap (λ (b : Asked). length b.task.acts) c.run.view_is) in
     let budget : a.settings.budget ≤ 100000000 = omega (arith, c.run.invariant.0.budget.1, ap (λ (b : Asked). b.settings.budget) c.run.view_is) in
     let few = needed-few a.task a.settings s tables number e.node (brood_of a.task s.nodes e.node) x.fresh.items x.pairs.items
-    (in_hand a.task s tables number x c.counters_are_carried.ensures.children e) taken.0 taken.1 taken.2 in
+    (in_hand a.task s tables number x (laws_of c.counters_are_carried.ensures.children c.children_are_numbered.ensures c.nodes_are_numbered.ensures) e) taken.0 taken.1 taken.2 in
     let counted : c.len.result ≡ length x.pairs.items = search rules in
     let counts = taken.2.holds.counts in
     omega (arith, few, counts.born, counts.few, c.pairs.ensures.value, small, budget, e.repeats_are)
@@ -60,7 +60,7 @@ returns-then-exceeds-clause-steps g c m node at =
     (λ j. exceeds (sym words j) (sym needed j) (sym tuples j)) ∙ (sym c.exceeds.ensures ∙ c.if-exceeds.true) in (
       at.holds,
       words-end a.task a.settings s tables number e.node (brood_of a.task s.nodes e.node) x.fresh.items x.pairs.items
-          (in_hand a.task s tables number x c.counters_are_carried.ensures.children e) m node at many
+          (in_hand a.task s tables number x (laws_of c.counters_are_carried.ensures.children c.children_are_numbered.ensures c.nodes_are_numbered.ensures) e) m node at many
           ∙ ap (λ (n : ℕ). Ends (Words n)) (sym needed),
       refl,
     )
@@ -116,7 +116,7 @@ keep_expansion-requires g c =
     let few = kept-few s.nodes.kept taken.0.nodes holds.nodes.nodes_are in
     record {
       new = newborns-fit a.task a.settings s tables number e.node (brood_of a.task s.nodes e.node) x.fresh.items x.pairs.items
-          (in_hand a.task s tables number x c.counters_are_carried.ensures.children e) taken.0 taken.1 taken.2 numbered.newborns.items entered.newborns;
+          (in_hand a.task s tables number x (laws_of c.counters_are_carried.ensures.children c.children_are_numbered.ensures c.nodes_are_numbered.ensures) e) taken.0 taken.1 taken.2 numbered.newborns.items entered.newborns;
       is_kept = ap is_some e.found;
       tracked = c.node_at-node.ensures.track;
       few = omega (arith, few, counts.kept, counts.numbered);
@@ -157,7 +157,7 @@ returns-clause-steps g c m node at =
     (subst (λ (n : Kept). IsCommitted c.run.inside.settings number n.mark.track numbered.newborns.items numbered.repeats s later) same c.in_ok-keep_expansion.ensures) in
     let went =
     goes a.task a.settings s tables number e.node (brood_of a.task s.nodes e.node) x.fresh.items x.pairs.items
-    (in_hand a.task s tables number x c.counters_are_carried.ensures.children e) m node at
+    (in_hand a.task s tables number x (laws_of c.counters_are_carried.ensures.children c.children_are_numbered.ensures c.nodes_are_numbered.ensures) e) m node at
     c.enter.new.tables numbered.newborns.items numbered.repeats later few entered.newborns (omega (arith, e.repeats_are, entered.repeats)) c.requires.spare small committed
     entered.births entered.keys entered.index entered.limit in
     let event = event_as a.settings e.node numbered.repeats numbered.newborns.items in

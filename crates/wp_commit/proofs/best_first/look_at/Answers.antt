@@ -1,15 +1,15 @@
-use Rattle.std.proofs.Common.{◌≡◌, ◌==◌, ℕ, true, false, Some, length, refl, sym, ap, ◌∙◌, eq-eqb}
-use Rattle.std.proofs.lemmas.Bool.{ne_eqb}
+use Rattle.std.proofs.Common.{◌≡◌, ℕ, List, Some, length, refl, sym, ap, ◌∙◌}
 use Rattle.std.proofs.lemmas.Result.{IfOk-weaker}
 use Rattle.wp_task.specs.Novelty.{Generated}
 use Rattle.wp_plain.specs.Places.{places_in}
 use Rattle.wp_plain.specs.Pairs.{all_tuples}
+use Rattle.wp_plain.specs.declared.ending.How.TheVariants.{Found}
 use Rattle.wp_plain.specs.Run.{expand, look_at}
-use Rattle.wp_plain.proofs.RunLemmas.{look_at-found, look_at-expands}
+use Rattle.wp_plain.specs.Run.Outcome.{Ends}
 use Rattle.wp_commit.specs.Asked.{Asked}
 use Rattle.wp_commit.specs.Searched.{shown_kept, shown, plans_in, progress, StepsAt}
 use Rattle.wp_commit.proofs.TakeLemmas.{kept_is}
-use Rattle.wp_commit.proofs.StepLemmas.{Steps-same, look_at-spent, plans-follow}
+use Rattle.wp_commit.proofs.StepLemmas.{Steps-same, plans-follow}
 use Rattle.wp_commit.proofs.best_first.look_at.Goals as goal
 
 pub returns-then-node_at-eq0-clause-steps : goal.returns-then-node_at-eq0-clause-steps
@@ -20,11 +20,11 @@ returns-then-node_at-eq0-clause-steps g c m node taken =
     let k = c.node_at.result.now in
     let same : shown_kept k ≡ shown node =
     kept_is task settings s c.args.tables.now m taken.holds node k taken.there c.node_at.ensures.there (c.node_at.ensures.named ∙ sym taken.named) in
-    let met : (node.generated.counters.0 == 0) ≡ true =
-    ap (λ (p : Generated × ℕ). p.0.counters.0 == 0) (sym same) ∙ eq-eqb k.mark.g 0 c.if-node_at-eq0.true in (
+    let met : node.generated.counters.0 ≡ 0 = ap (λ (p : Generated × ℕ). p.0.counters.0) (sym same) ∙ c.if-node_at-eq0.true in
+    let plan : c.in_ok-plan.plan ≡ plans_in m.paths node.generated.number =
+    c.in_ok-plan.ensures.links (plans_in m.paths) (plans-follow task s.nodes m taken.holds.nodes) ∙ ap (plans_in m.paths) (sym taken.named) in (
       taken.holds,
-      look_at-found task settings (all_tuples task settings) m node c.in_ok-plan.plan met
-          (c.in_ok-plan.ensures.links (plans_in m.paths) (plans-follow task s.nodes m taken.holds.nodes) ∙ ap (plans_in m.paths) (sym taken.named)),
+      (c.steps_are_taken.ensures task settings (all_tuples task settings)).found m node met ∙ ap (λ (acts : List ℕ). Ends (Found acts)) (sym plan),
       refl,
     )
 
@@ -36,11 +36,11 @@ returns-then-searched-run-clause-steps g c m node taken =
     let k = c.node_at.result.now in
     let same : shown_kept k ≡ shown node =
     kept_is task settings s c.args.tables.now m taken.holds node k taken.there c.node_at.ensures.there (c.node_at.ensures.named ∙ sym taken.named) in
-    let unmet : (node.generated.counters.0 == 0) ≡ false =
-    ap (λ (p : Generated × ℕ). p.0.counters.0 == 0) (sym same) ∙ ne_eqb k.mark.g 0 c.if-node_at-eq0.false in (
+    let unmet : node.generated.counters.0 ≡ 0 → ⊥ =
+    λ (met : node.generated.counters.0 ≡ 0). c.if-node_at-eq0.false (ap (λ (p : Generated × ℕ). p.0.counters.0) same ∙ met) in (
       taken.holds,
-      look_at-spent task settings m node unmet
-          (eq-eqb (length m.events) settings.budget (sym taken.holds.counts.expanded ∙ (c.if-searched-run.true ∙ ap (λ (a : Asked). a.settings.budget) c.run.view_is))),
+      (c.steps_are_taken.ensures task settings (all_tuples task settings)).spent m node unmet
+          (sym taken.holds.counts.expanded ∙ (c.if-searched-run.true ∙ ap (λ (a : Asked). a.settings.budget) c.run.view_is)),
       refl,
     )
 
@@ -61,10 +61,10 @@ returns-clause-steps g c =
     (λ how went m node taken.
     let same : shown_kept k ≡ shown node =
     kept_is task settings s tables m taken.holds node k taken.there c.node_at.ensures.there (c.node_at.ensures.named ∙ sym taken.named) in
-    let unmet : (node.generated.counters.0 == 0) ≡ false =
-    ap (λ (p : Generated × ℕ). p.0.counters.0 == 0) (sym same) ∙ ne_eqb k.mark.g 0 c.if-node_at-eq0.false in
+    let unmet : node.generated.counters.0 ≡ 0 → ⊥ =
+    λ (met : node.generated.counters.0 ≡ 0). c.if-node_at-eq0.false (ap (λ (p : Generated × ℕ). p.0.counters.0) same ∙ met) in
     Steps-same task settings (look_at task settings (all_tuples task settings) m (Some node)) (expand task settings (all_tuples task settings) m node) m before later how
-    (look_at-expands task settings (all_tuples task settings) m node unmet
-    (ne_eqb (length m.events) settings.budget (λ spent. c.if-searched-run.false (taken.holds.counts.expanded ∙ (spent ∙ sym (ap (λ (a : Asked). a.settings.budget) c.run.view_is))))))
+    ((c.steps_are_taken.ensures task settings (all_tuples task settings)).spare m node unmet
+    (λ spent. c.if-searched-run.false (taken.holds.counts.expanded ∙ (spent ∙ sym (ap (λ (a : Asked). a.settings.budget) c.run.view_is)))))
     (went m node taken))
     c.expand.ensures.steps

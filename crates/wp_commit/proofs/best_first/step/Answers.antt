@@ -12,7 +12,7 @@ pub look_at-requires : goal.look_at-requires
 look_at-requires g c =
     let m = c.requires.stands.0 in
     let found =
-    taken_first c.args.run.now.task c.args.run.now.settings c.args.searched.now c.args.tables.now m c.take.new.self c.in-Some.number c.requires.stands.1 c.in-Some.ensures.taken in
+    taken_first c.args.run.now.task c.args.run.now.settings c.args.searched.now c.args.tables.now m c.first_is_least.ensures c.take.new.self c.in-Some.number c.requires.stands.1 c.in-Some.ensures.taken in
     record { taken = (m, found.node, found.taken, c.requires.stands.2) }
 
 pub returns-in-Some-clause-steps : goal.returns-in-Some-clause-steps
@@ -29,7 +29,7 @@ returns-in-Some-clause-steps g c =
     (λ how. StepsAt task settings (λ m node. look_at task settings (all_tuples task settings) m (Some node)) c.in-Some.number (progress (record s { queue = c.take.new.self }) tables before) later how)
     (λ how. StepsFrom task settings (step task settings (all_tuples task settings)) (progress s tables before) later how)
     (λ how went m stands.
-    let found = taken_first task settings s tables m c.take.new.self c.in-Some.number stands c.in-Some.ensures.taken in
+    let found = taken_first task settings s tables m c.first_is_least.ensures c.take.new.self c.in-Some.number stands c.in-Some.ensures.taken in
     Steps-same task settings (step task settings (all_tuples task settings) m) (look_at task settings (all_tuples task settings) m (Some found.node)) m before later how
     (ap (look_at task settings (all_tuples task settings) m) found.first) (went m found.node found.taken))
     c.look_at.ensures.steps
@@ -40,6 +40,6 @@ returns-in-None-clause-steps g c m stands =
     let settings = c.args.run.now.settings in
     let s = c.args.searched.now in (
       HoldsAt-queue task settings s c.args.tables.now m c.take.new.self stands.holds,
-      ap (look_at task settings (all_tuples task settings) m) (none_taken m.nodes s.queue stands.waiting c.in-None.ensures.empty.0),
+      ap (look_at task settings (all_tuples task settings) m) (none_taken c.first_is_least.ensures m.nodes s.queue stands.waiting c.in-None.ensures.empty.0),
       refl,
     )

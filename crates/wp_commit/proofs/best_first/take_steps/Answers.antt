@@ -3,7 +3,6 @@ use Rattle.wp_watch.specs.Places.{AreAfter}
 use Rattle.wp_plain.specs.Places.{places_in}
 use Rattle.wp_plain.specs.Pairs.{all_tuples}
 use Rattle.wp_plain.specs.Run.{step, run_from}
-use Rattle.wp_plain.proofs.RunLemmas.{run_from-goes, run_from-ends}
 use Rattle.wp_commit.specs.Asked.{Asked}
 use Rattle.wp_commit.specs.Searched.{progress, StandsAtSome, StepsFrom}
 use Rattle.wp_commit.proofs.best_first.take_steps.Goals as goal
@@ -33,7 +32,7 @@ returns-in-Some-clause-runs g c m stands =
       now.0,
       went.0,
       sym (ap (λ (n : ℕ). run_from task settings (all_tuples task settings) n now.0) left ∙ now.2)
-          ∙ run_from-ends task settings (all_tuples task settings) (settings.budget - c.loop-step._step) now.0 c.in-Some.how went.1,
+          ∙ (c.steps_are_taken.ensures task settings (all_tuples task settings)).ends (settings.budget - c.loop-step._step) now.0 c.in-Some.how went.1,
       λ list after. subst (AreAfter list now.0.events) (sym went.2) (now.3 list after),
     )
 
@@ -61,7 +60,7 @@ loop-step-preserved g c =
             went.0,
             went.1,
             ap (λ (n : ℕ). run_from task settings (all_tuples task settings) n went.0) rest
-                ∙ (sym (run_from-goes task settings (all_tuples task settings) (settings.budget - c.loop-step._step) now.0 went.0 went.2)
+                ∙ (sym ((c.steps_are_taken.ensures task settings (all_tuples task settings)).goes (settings.budget - c.loop-step._step) now.0 went.0 went.2)
                 ∙ (ap (λ (n : ℕ). run_from task settings (all_tuples task settings) n now.0) left ∙ now.2)),
             λ list after. went.3 list (now.3 list after),
           );

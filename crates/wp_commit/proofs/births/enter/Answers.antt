@@ -5,7 +5,7 @@ use Rattle.wp_plain.specs.Nodes.{generated_in}
 use Rattle.wp_plain.specs.Explored.{all_numbered}
 use Rattle.wp_commit.specs.Newborns.{birth_of}
 use Rattle.wp_commit.specs.Expansions.{brood_of}
-use Rattle.wp_commit.proofs.ExpansionLemmas.{all-open, in_hand, last-before, newborns-here, sizes-fit}
+use Rattle.wp_commit.proofs.ExpansionLemmas.{all-open, in_hand, laws_of, last-before, newborns-here, sizes-fit}
 use Rattle.wp_commit.proofs.births.enter.Goals as goal
 
 pub number_all-requires-clause-open : goal.number_all-requires-clause-open
@@ -17,7 +17,7 @@ number_all-requires-clause-open c =
     let e = c.requires.evaluated in
     let taken = c.requires.taken in
     all-open a.task a.settings s tables c.args.number e.node (brood_of a.task s.nodes e.node) x.fresh.items x.pairs.items
-    (in_hand a.task s tables c.args.number x c.counters_are_carried.ensures.children e) taken.0 taken.1 taken.2
+    (in_hand a.task s tables c.args.number x (laws_of c.counters_are_carried.ensures.children c.children_are_numbered.ensures c.nodes_are_numbered.ensures) e) taken.0 taken.1 taken.2
     c.open_all.new.tables.tables c.in_ok-open_all.ensures.keys
 
 pub number_all-requires-clause-sizes : goal.number_all-requires-clause-sizes
@@ -29,7 +29,7 @@ number_all-requires-clause-sizes c =
     let e = c.requires.evaluated in
     let taken = c.requires.taken in
     sizes-fit a.task a.settings s tables c.args.number e.node (brood_of a.task s.nodes e.node) x.fresh.items x.pairs.items
-    (in_hand a.task s tables c.args.number x c.counters_are_carried.ensures.children e) taken.0 taken.1 taken.2
+    (in_hand a.task s tables c.args.number x (laws_of c.counters_are_carried.ensures.children c.children_are_numbered.ensures c.nodes_are_numbered.ensures) e) taken.0 taken.1 taken.2
     c.open_all.new.tables.index c.in_ok-open_all.ensures.index
 
 pub number_all-requires-clause-later : goal.number_all-requires-clause-later
@@ -41,7 +41,7 @@ number_all-requires-clause-later c =
     let e = c.requires.evaluated in
     let taken = c.requires.taken in
     last-before a.task a.settings s tables c.args.number e.node (brood_of a.task s.nodes e.node) x.fresh.items x.pairs.items
-    (in_hand a.task s tables c.args.number x c.counters_are_carried.ensures.children e) taken.0 taken.1 taken.2
+    (in_hand a.task s tables c.args.number x (laws_of c.counters_are_carried.ensures.children c.children_are_numbered.ensures c.nodes_are_numbered.ensures) e) taken.0 taken.1 taken.2
     c.open_all.new.tables.last c.in_ok-open_all.ensures.last
 
 pub returns : goal.returns
@@ -55,7 +55,7 @@ returns c m node at =
     let width = ap (λ (i : Indexed). i.width) (c.in_ok-open_all.ensures.index ∙ at.holds.words.index) in
     record {
       newborns = newborns-here a.task a.settings s tables c.args.number e.node (brood_of a.task s.nodes e.node) x.fresh.items x.pairs.items
-          (in_hand a.task s tables c.args.number x c.counters_are_carried.ensures.children e) m node at
+          (in_hand a.task s tables c.args.number x (laws_of c.counters_are_carried.ensures.children c.children_are_numbered.ensures c.nodes_are_numbered.ensures) e) m node at
           c.open_all.new.tables.index.width c.in_ok-newborns.newborns.items width (c.in_ok-newborns.ensures.newborns (generated_in m.nodes) births);
       repeats = refl;
       births = subst (λ i. StandsFor c.number_all.new.tables (map birth_of (generated_in m.nodes ++ all_numbered i x.fresh.items))) at.holds.counts.numbered

@@ -2,7 +2,7 @@ use Rattle.std.proofs.Common.{suc, arith, ◌≡◌, ◌+◌, ◌++◌, ◌∷�
 use Rattle.std.proofs.Math.Seq.{drop-cons}
 use Rattle.wp_plain.specs.Nodes.{Successor}
 use Rattle.wp_plain.specs.Expansion.{unseen}
-use Rattle.wp_plain.proofs.ListLemmas.{unseen-next}
+use Rattle.wp_plain.proofs.UnseenLemmas.{unseen-next}
 use Rattle.wp_commit.specs.Expansions.{states_of, successors_by}
 use Rattle.wp_commit.proofs.unseen.unseen.Goals as goal
 
