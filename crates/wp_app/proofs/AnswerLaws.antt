@@ -12,7 +12,7 @@ use Rattle.wp_lift.specs.Formed.{IsFormed}
 use Rattle.wp_lift.proofs.FormedLemmas.{made-formed}
 use Rattle.wp_task.specs.Task.{IsTask, is_plan}
 use Rattle.wp_check.specs.PlanFile.{plan_of}
-use Rattle.wp_check.specs.PlanText.{line, steps_text}
+use Rattle.wp_check.specs.PlanText.{AreComments, line, steps_text}
 use Rattle.wp_check.proofs.PassedPlans.{comments_join}
 use Rattle.wp_check.specs.Printed.{PlansOfTextsAreReadBack, IsReadBack, naming_steps}
 use Rattle.wp_ground.specs.declared.grounding.Grounded.{Grounded}
@@ -142,11 +142,13 @@ found_read_back found_is_plan plans_are_valid read_back asked files settings lif
     let more = flat_map (λ (text : List ℕ). text) says in
     let line_of = found_text (length plan) ending.counts in
     let comments = line_of ++ more in
+    let are_comments : AreComments comments =
+    comments_join line_of more (found_is_comment (length plan) ending.counts)
+    (texts_are_comments (watchers_of asked files settings lifted of) (run is.grounded.task settings (all_tuples is.grounded.task settings)).1.events) in
     let back : IsReadBack lifted (map (instance_at lifted) plan) comments =
     read_back texts.domain_text texts.problem_text of.texts.domain of.texts.problem lifted (map (instance_at lifted) plan) comments
     texts.is_domain texts.is_problem (lifted_finely of.texts.domain of.texts.problem lifted of.lifts) valid.1
-    (comments_join line_of more (found_is_comment (length plan) ending.counts)
-    (texts_are_comments (watchers_of asked files settings lifted of) (run is.grounded.task settings (all_tuples is.grounded.task settings)).1.events)) in
+    are_comments in
     let text =
     ap (λ (front : List ℕ). front ++ more)
     (found_reply settings lifted is.grounded ending plan found task.1
@@ -155,7 +157,7 @@ found_read_back found_is_plan plans_are_valid read_back asked files settings lif
       answer_with asked files settings lifted ending is,
       answered asked files settings lifted ending is,
       status_by settings is.grounded ending (Found plan) found,
-      record { read = ap plan_of text ∙ back.read; valid = back.valid },
+      record { comments = comments; commented = are_comments; shown = text; read = ap plan_of text ∙ back.read; valid = back.valid },
     )
 
 pub unreached_no_plan : UnreachedGoalsHaveNoPlan → GoalsOutOfReachHaveNoPlan
@@ -163,7 +165,7 @@ unreached_no_plan none asked files settings lifted goal atom of refused =
     none lifted (is_formed asked files settings lifted of) (out_of_reach lifted goal atom refused)
 
 -- a valid plan would be one of the task
-valid_in_task : PlansAreValid → ValidPlansAreNumbered → (lifted : Lifting) → IsFormed lifted → list_all (among (reached lifted)) lifted.goals ≡ true
+pub valid_in_task : PlansAreValid → ValidPlansAreNumbered → (lifted : Lifting) → IsFormed lifted → list_all (among (reached lifted)) lifted.goals ≡ true
     → ((plan : List ℕ) → is_plan (task_of lifted) plan ≡ false) → (plan : List Instance) → is_valid lifted plan ≡ true → ⊥
 valid_in_task plans_are_valid numbered lifted formed goals none plan valid =
     let of = numbered lifted formed plan valid in

@@ -23,7 +23,7 @@ use Rattle.wp_lift.specs.Lifting.{lifting_of}
 use Rattle.wp_lift.specs.Worlds.{among, unmet_goal}
 use Rattle.wp_ground.specs.declared.grounding.Grounded.{Grounded}
 use Rattle.wp_ground.specs.declared.grounding.GroundError.{GroundError}
-use Rattle.wp_ground.specs.declared.grounding.GroundError.TheVariants.{TooManyActs, TooManyAtoms, GoalOutOfReach}
+use Rattle.wp_ground.specs.declared.grounding.GroundError.TheVariants.{TooManyActs, TooManyAtoms, GoalOutOfReach, Memory}
 use Rattle.wp_ground.specs.Reached.{reached}
 use Rattle.wp_ground.specs.Refusals.{goal_refusal, grounded_of, refusal_of}
 use Rattle.wp_ground.specs.Tasks.{atoms_of, steps_of}
@@ -159,6 +159,12 @@ cleared lifted false true goal e = cc
 cleared lifted false false None e = record { few_acts = refl; few_atoms = refl; all_reached = refl }
 cleared lifted false false (Some goal) e = cc
 
+no_memory : (lifted : Lifting) (acts atoms : Bool) (goal : Option ℕ) → refusal_in lifted acts atoms goal ≡ Some Memory → ⊥
+no_memory lifted true atoms goal e = cc
+no_memory lifted false true goal e = cc
+no_memory lifted false false None e = cc
+no_memory lifted false false (Some goal) e = cc
+
 unreached : (lifted : Lifting) (acts atoms : Bool) (goal : Option ℕ) (place : ℕ) (text : List ℕ)
     → refusal_in lifted acts atoms goal ≡ Some (GoalOutOfReach place text) → goal ≡ None → ⊥
 unreached lifted true atoms goal place text e none = cc
@@ -215,3 +221,7 @@ out_of_reach lifted goal atom e =
     (position_from-zero (λ goal. not (is_reached goal)) lifted.goals ∙ none_from is_reached 0 lifted.goals all)))
     (λ (some : list_all is_reached lifted.goals ≡ false). some)
     (cases_Bool (list_all is_reached lifted.goals))
+
+-- want of memory is no cause against a task
+pub never_memory : (lifted : Lifting) → refusal_of lifted ≡ Some Memory → ⊥
+never_memory lifted e = no_memory lifted (too_many_acts lifted) (too_many_atoms lifted) (unmet_goal lifted (among (reached lifted))) e

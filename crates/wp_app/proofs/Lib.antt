@@ -12,4 +12,6 @@ pub mod PlanLemmas
 pub mod ChainLemmas
 pub mod CommentLemmas
 pub mod AnswerLaws
+pub mod EndLemmas
 pub mod StatusLaws
+pub mod MeaningLaws

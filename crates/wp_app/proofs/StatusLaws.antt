@@ -1,23 +1,8 @@
 -- What the status of an answer to `plan` says, from how the answer comes about.
-use Rattle.std.proofs.Common.{◌≡◌, ℕ, Bool, true, false, List, [], ◌∷◌, length, map, refl, sym, ap, ◌∙◌, subst, inl, inr}
-use Rattle.std.specs.Prelude.{nat_lt, Option, None, Some}
-use Rattle.std.specs.FinMap.{get}
+use Rattle.std.proofs.Common.{◌≡◌, ℕ, List, map, refl, sym, ap, ◌∙◌, subst, inl, inr}
+use Rattle.std.specs.Prelude.{Option, None, Some}
 use Rattle.wp_edge.specs.Fetch.{Contents}
-use Rattle.wp_lex.specs.declared.error.LexError.{LexError}
-use Rattle.wp_lex.specs.declared.item.Item.{Item}
-use Rattle.wp_lex.specs.Trees.{trees_of}
-use Rattle.wp_lex.specs.Faults.{fault_of}
-use Rattle.wp_lex.specs.Items.{items_of}
-use Rattle.wp_syntax.specs.declared.error.Part.{Part}
-use Rattle.wp_syntax.specs.declared.error.Part.TheVariants as parts
-use Rattle.wp_syntax.specs.declared.records.Domain.{Domain}
-use Rattle.wp_syntax.specs.declared.records.Problem.{Problem}
-use Rattle.wp_syntax.specs.Reading.{Wrong}
-use Rattle.wp_syntax.specs.Domains.{domain_of}
-use Rattle.wp_syntax.specs.Problems.{problem_of}
 use Rattle.wp_lift.specs.Problem.{Lifting, Instance}
-use Rattle.wp_lift.specs.Walk.{Fault}
-use Rattle.wp_lift.specs.Lifting.{lifting_of}
 use Rattle.wp_ground.specs.declared.grounding.Grounded.{Grounded}
 use Rattle.wp_ground.specs.declared.grounding.GroundError.{GroundError}
 use Rattle.wp_ground.specs.declared.grounding.GroundError.TheVariants.{TooManyActs, TooManyAtoms, GoalOutOfReach, Memory}
@@ -31,115 +16,28 @@ use Rattle.wp_plain.specs.declared.ending.How.{How}
 use Rattle.wp_plain.specs.declared.ending.How.TheVariants.{Found, Emptied, Budget, Words}
 use Rattle.wp_plain.specs.Pairs.{all_tuples}
 use Rattle.wp_plain.specs.Run.{ending_of}
-use Rattle.wp_report.specs.Inputs.{too_long_text}
 use Rattle.wp_report.specs.Tasks.{ground_error_text}
 use Rattle.wp_app.specs.declared.reply.Reply.{Reply}
 use Rattle.wp_app.specs.declared.reply.Status.{Status}
 use Rattle.wp_app.specs.declared.reply.Status.TheVariants as statuses
-use Rattle.wp_app.specs.declared.inputs.Texts.{Texts}
 use Rattle.wp_watch.specs.declared.watch.WatchKind.{WatchKind}
 use Rattle.wp_words.specs.declared.commands.Command.TheVariants.{Plan}
 use Rattle.wp_app.specs.Requests.{Asked, kept_of}
-use Rattle.wp_app.specs.Steps.{Step, missing, ends, goes, reply_of, ◌>>=◌}
-use Rattle.wp_app.specs.Output.{limit_of, answer_of, answered, within, part_of, items_by, items_step, record_by, domain_in, problem_in, domain_step, problem_step, texts_step, lifted_by, lifted_step, task_by, grounded_step, files_planned_step, planned_step, run_step, searched_reply, whole, ending_reply, ending_status}
+use Rattle.wp_app.specs.Steps.{Step, ends, goes, reply_of, ◌>>=◌}
+use Rattle.wp_app.specs.Output.{answer_of, texts_step, lifted_step, task_by, grounded_step, files_planned_step, planned_step, run_step, searched_reply, whole, ending_reply, ending_status}
 use Rattle.wp_app.specs.Laws.{IsLifted, IsSearched, IsPlanned, IsReadAs, HasNoPlan, FoundPlansAreReadBack, GoalsOutOfReachHaveNoPlan, EmptiedSearchesHaveNoPlan, DoneAnswersAreValidPlans, AnswersOfNoPlanAreTrue}
 use Rattle.wp_app.proofs.ReplyLemmas.{steps_commanded}
-use Rattle.wp_app.proofs.ChainLemmas.{both, from_problem}
+use Rattle.wp_app.proofs.EndLemmas.{AllowsRefusals, EndsIn, goes_past, lifted_ends, texts_ends}
 
 -- where the step ends, it is not with this status
-abbrev EndsOtherwise : {A : Type 0} → Status → Step A → Type 0
-EndsOtherwise status missing = Unit {0}
-EndsOtherwise status (ends reply) = reply.status ≡ status → ⊥
-EndsOtherwise status (goes value) = Unit {0}
-
--- neither that of a file that is too long nor that of a fault of its text
-record IsLater (status : Status) : Type 0 where
-  no_limit : statuses.Limit ≡ status → ⊥
-  no_fault : statuses.Refused ≡ status → ⊥
+abbrev Otherwise : Status → Status → Type 0
+Otherwise status one = one ≡ status → ⊥
 
 -- an answer with another status than those with which the step ends is that of what follows
-after : {A : Type 0} (status : Status) (step : Step A) (next : A → Step Reply) (reply : Reply) → EndsOtherwise status step
+after : {A : Type 0} (status : Status) (step : Step A) (next : A → Step Reply) (reply : Reply) → EndsIn (Otherwise status) step
     → reply_of (step >>= next) ≡ Some reply → reply.status ≡ status
     → (value : A) × (step ≡ goes value) × (reply_of (next value) ≡ Some reply)
-after status missing next reply other e is = cc
-after status (ends ended) next reply other e is =
-    let same : ended ≡ reply = cc in
-    absurd (other (ap (λ (one : Reply). one.status) same ∙ is))
-after status (goes value) next reply other e is = (value, refl, e)
-
-in_row : {A B : Type 0} (status : Status) (step : Step A) (next : A → Step B) → EndsOtherwise status step
-    → ((value : A) → EndsOtherwise status (next value)) → EndsOtherwise status (step >>= next)
-in_row status missing next first rest = tt
-in_row status (ends reply) next first rest = first
-in_row status (goes value) next first rest = rest value
-
--- ---- texts
-by_length : (status : Status) → IsLater status → (long : Bool) (text bytes : List ℕ)
-    → EndsOtherwise {A = List ℕ} status (elim long [ true ↦ answered statuses.Limit text | false ↦ goes bytes ])
-by_length status later true text bytes = later.no_limit
-by_length status later false text bytes = tt
-
-fetched : (status : Status) → IsLater status → (part : Part) (found : Option (List ℕ)) → EndsOtherwise {A = List ℕ} status (within part found)
-fetched status later part None = tt
-fetched status later part (Some bytes) =
-    by_length status later (nat_lt (limit_of part) (length bytes)) (too_long_text part (limit_of part)) bytes
-
-part_later : (status : Status) → IsLater status → (part : Part) (name : List ℕ) (files : Contents)
-    → EndsOtherwise {A = List ℕ} status (part_of part name files)
-unfolding part_of
-part_later status later part name files = fetched status later part (get files name)
-
-items_later : (status : Status) → IsLater status → (part : Part) (fault : Option LexError) (items : List Item)
-    → EndsOtherwise {A = List Item} status (items_by part fault items)
-items_later status later part None items = tt
-items_later status later part (Some fault) items = later.no_fault
-
-record_later : {A : Type 0} (status : Status) → IsLater status → (part : Part) (faults : List Wrong) (value : A)
-    → EndsOtherwise {A = A} status (record_by part faults value)
-record_later status later part [] value = tt
-record_later status later part (fault ∷ faults) value = later.no_fault
-
-domain_later : (status : Status) → IsLater status → (text : List ℕ) → EndsOtherwise {A = Domain} status (domain_step text)
-unfolding domain_step items_step domain_in
-domain_later status later text =
-    in_row status (items_by parts.Domain (fault_of text) (items_of text)) domain_in
-    (items_later status later parts.Domain (fault_of text) (items_of text))
-    (λ (items : List Item). let read = domain_of (trees_of items) in record_later status later parts.Domain read.faults read.value)
-
-problem_later : (status : Status) → IsLater status → (text : List ℕ) → EndsOtherwise {A = Problem} status (problem_step text)
-unfolding problem_step items_step problem_in
-problem_later status later text =
-    in_row status (items_by parts.Problem (fault_of text) (items_of text)) problem_in
-    (items_later status later parts.Problem (fault_of text) (items_of text))
-    (λ (items : List Item). let read = problem_of (trees_of items) in record_later status later parts.Problem read.faults read.value)
-
-texts_later : (status : Status) → IsLater status → (domain problem : List ℕ) (files : Contents)
-    → EndsOtherwise {A = Texts} status (texts_step domain problem files)
-unfolding texts_step
-texts_later status later domain problem files =
-    in_row status (part_of parts.Domain domain files)
-    (λ (text : List ℕ). domain_step text >>= λ (one : Domain). from_problem problem files one)
-    (part_later status later parts.Domain domain files)
-    (λ (text : List ℕ).
-    in_row status (domain_step text) (λ (one : Domain). from_problem problem files one) (domain_later status later text)
-    (λ (one : Domain).
-    in_row status (part_of parts.Problem problem files)
-    (λ (text : List ℕ). problem_step text >>= λ (two : Problem). both one two)
-    (part_later status later parts.Problem problem files)
-    (λ (text : List ℕ).
-    in_row status (problem_step text) (λ (two : Problem). both one two) (problem_later status later text)
-    (λ (two : Problem). tt))))
-
--- ---- names and the task
-names_later : (status : Status) → IsLater status → (faults : List Fault) (value : Lifting)
-    → EndsOtherwise {A = Lifting} status (lifted_by faults value)
-names_later status later [] value = tt
-names_later status later (fault ∷ faults) value = later.no_fault
-
-lifted_later : (status : Status) → IsLater status → (domain : Domain) (problem : Problem)
-    → EndsOtherwise {A = Lifting} status (lifted_step domain problem)
-unfolding lifted_step
-lifted_later status later domain problem = let walk = lifting_of domain problem in names_later status later walk.faults walk.value
+after status step next reply other e is = goes_past (Otherwise status) step next reply other e (λ not_so. not_so is)
 
 -- the answer of a lifted problem
 record Answers (asked : Asked) (files : Contents) (settings : Settings) (reply : Reply) : Type 0 where
@@ -148,18 +46,18 @@ record Answers (asked : Asked) (files : Contents) (settings : Settings) (reply :
   watchers : List (WatchKind × Option ℕ)
   replies : reply_of (grounded_step lifted >>= λ (grounded : Grounded). goes (searched_reply whole settings watchers grounded)) ≡ Some reply
 
-answers : (asked : Asked) (files : Contents) (settings : Settings) (reply : Reply) (status : Status) → IsLater status
+answers : (asked : Asked) (files : Contents) (settings : Settings) (reply : Reply) (status : Status) → AllowsRefusals (Otherwise status)
     → IsPlanned asked files settings reply → reply.status ≡ status → Answers asked files settings reply
 unfolding run_step files_planned_step planned_step
 answers asked files settings reply status later is same =
     let command = Plan is.domain is.problem settings is.watch is.plain in
     let watchers = kept_of command asked.watchers in
     let run = sym (ap reply_of (steps_commanded asked command files is.command)) ∙ is.answer in
-    let first = after status (texts_step is.domain is.problem files) (planned_step whole settings watchers) reply (texts_later status later is.domain is.problem files) run same in
+    let first = after status (texts_step is.domain is.problem files) (planned_step whole settings watchers) reply (texts_ends (Otherwise status) later is.domain is.problem files) run same in
     let second =
     after status (lifted_step first.0.domain first.0.problem)
     (λ (lifted : Lifting). grounded_step lifted >>= λ (grounded : Grounded). goes (searched_reply whole settings watchers grounded)) reply
-    (lifted_later status later first.0.domain first.0.problem) first.2 same in record {
+    (lifted_ends (Otherwise status) later first.0.domain first.0.problem) first.2 same in record {
       lifted = second.0;
       lifts = record { domain = is.domain; problem = is.problem; watch = is.watch; plain = is.plain; texts = first.0; command = is.command; read = first.1; lifts = second.1 };
       watchers = watchers;
@@ -167,11 +65,11 @@ answers asked files settings reply status later is same =
     }
 
 -- the refusals by grounding have statuses of their own
-refused_later : (status : Status) → IsLater status → (statuses.OutOfReach ≡ status → ⊥) → (statuses.Memory ≡ status → ⊥)
-    → (refusal : Option GroundError) (made : Grounded) → EndsOtherwise {A = Grounded} status (task_by refusal made)
+refused_later : (status : Status) → AllowsRefusals (Otherwise status) → (statuses.OutOfReach ≡ status → ⊥) → (statuses.Memory ≡ status → ⊥)
+    → (refusal : Option GroundError) (made : Grounded) → EndsIn {A = Grounded} (Otherwise status) (task_by refusal made)
 refused_later status later reach memory None made = tt
-refused_later status later reach memory (Some TooManyActs) made = later.no_limit
-refused_later status later reach memory (Some TooManyAtoms) made = later.no_limit
+refused_later status later reach memory (Some TooManyActs) made = later.limit
+refused_later status later reach memory (Some TooManyAtoms) made = later.limit
 refused_later status later reach memory (Some (GoalOutOfReach goal atom)) made = reach
 refused_later status later reach memory (Some Memory) made = memory
 
@@ -182,7 +80,7 @@ record Searched (asked : Asked) (files : Contents) (settings : Settings) (reply 
   is_searched : IsSearched asked files settings lifted ending
   how_status : ending_status settings.search ending.how ≡ reply.status
 
-searched : (asked : Asked) (files : Contents) (settings : Settings) (reply : Reply) (status : Status) → IsLater status
+searched : (asked : Asked) (files : Contents) (settings : Settings) (reply : Reply) (status : Status) → AllowsRefusals (Otherwise status)
     → (statuses.OutOfReach ≡ status → ⊥) → (statuses.Memory ≡ status → ⊥)
     → IsPlanned asked files settings reply → reply.status ≡ status → Searched asked files settings reply
 unfolding grounded_step searched_reply ending_reply
@@ -255,7 +153,7 @@ done_there found asked files settings reply answer of done =
 
 pub done_answers : FoundPlansAreReadBack → DoneAnswersAreValidPlans
 done_answers found asked files settings reply is done =
-    let later : IsLater statuses.Done = record { no_limit = λ e. cc; no_fault = λ e. cc } in
+    let later : AllowsRefusals (Otherwise statuses.Done) = record { limit = λ e. cc; fault = λ e. cc } in
     let of = searched asked files settings reply statuses.Done later (λ e. cc) (λ e. cc) is done in
     let there = done_there found asked files settings reply is.answer of done in
     (of.lifted, of.is_searched.lifts, there.0, there.1)
@@ -269,7 +167,7 @@ emptied_there emptied asked files settings reply of none =
 no_plan_there : EmptiedSearchesHaveNoPlan → (asked : Asked) (files : Contents) (settings : Settings) (reply : Reply)
     → IsPlanned asked files settings reply → reply.status ≡ statuses.NoPlan → HasNoPlan asked files settings
 no_plan_there emptied asked files settings reply is none =
-    let later : IsLater statuses.NoPlan = record { no_limit = λ e. cc; no_fault = λ e. cc } in
+    let later : AllowsRefusals (Otherwise statuses.NoPlan) = record { limit = λ e. cc; fault = λ e. cc } in
     let of = searched asked files settings reply statuses.NoPlan later (λ e. cc) (λ e. cc) is none in
     emptied_there emptied asked files settings reply of none
 
@@ -277,7 +175,7 @@ out_of_reach_there : GoalsOutOfReachHaveNoPlan → (asked : Asked) (files : Cont
     → IsPlanned asked files settings reply → reply.status ≡ statuses.OutOfReach → HasNoPlan asked files settings
 unfolding grounded_step
 out_of_reach_there unreached asked files settings reply is out =
-    let later : IsLater statuses.OutOfReach = record { no_limit = λ e. cc; no_fault = λ e. cc } in
+    let later : AllowsRefusals (Otherwise statuses.OutOfReach) = record { limit = λ e. cc; fault = λ e. cc } in
     let of = answers asked files settings reply statuses.OutOfReach later is out in
     let goal = not_reached (refusal_of of.lifted) (grounded_of of.lifted) settings of.watchers reply out of.replies in
     (of.lifted, of.lifts, unreached asked files settings of.lifted goal.0 goal.1 of.lifts goal.2)

@@ -1,12 +1,13 @@
 -- What the answers to `plan` mean, whatever the files: the text of a plan that is found is read as a valid plan, there is no valid
 -- plan where the answer says so, k-BFWS stays within its bound, and limits that are large enough end no search.
-use Rattle.std.specs.Prelude.{◌≡◌, ◌≢◌, ◌+◌, ◌*◌, ◌≤◌, ◌⊎◌, ℕ, Bool, false, Some, Ok, List, length, map, Contains}
+use Rattle.std.specs.Prelude.{◌≡◌, ◌≢◌, ◌++◌, ◌+◌, ◌*◌, ◌≤◌, ◌⊎◌, ℕ, Bool, false, Some, Ok, List, length, map, Contains}
 use Rattle.wp_edge.specs.Fetch.{Contents}
 use Rattle.wp_lift.specs.Problem.{Lifting, Instance}
 use Rattle.wp_lift.specs.Worlds.{is_valid}
 use Rattle.wp_task.specs.Task.{IsReachable}
 use Rattle.wp_check.specs.declared.cause.Verdict.TheVariants.{Valid}
 use Rattle.wp_check.specs.PlanFile.{plan_of}
+use Rattle.wp_check.specs.PlanText.{AreComments, steps_text}
 use Rattle.wp_check.specs.Printed.{naming_steps}
 use Rattle.wp_check.specs.Verdicts.{verdict_of}
 use Rattle.wp_ground.specs.declared.grounding.Grounded.{Grounded}
@@ -47,12 +48,16 @@ pub record IsSearched (asked : Asked) (files : Contents) (settings : Settings) (
   pub grounds : grounded_step lifted ≡ goes grounded
   pub ends : ending_of grounded.task settings (all_tuples grounded.task settings) ≡ ending
 
--- the text is read as steps that name these instances, and the steps are valid
+-- the text is a line for each step that names one of these instances, and behind them lines of comments; it is read as these steps, and
+-- they are valid
 pub record IsReadAs (lifted : Lifting) (plan : List Instance) (text : List ℕ) : Type 0 where
+  pub comments : List ℕ
+  pub commented : AreComments comments
+  pub shown : text ≡ steps_text (naming_steps lifted plan) ++ comments
   pub read : plan_of text ≡ Ok (naming_steps lifted plan)
   pub valid : verdict_of lifted (naming_steps lifted plan) ≡ Valid
 
--- where a plan is found, the answer is done, and its whole text is read as the plan's steps, which are valid
+-- where a plan is found, the answer is done, and its whole text is the lines of the plan's steps, which are valid, and comments behind them
 abbrev pub FoundPlansAreReadBack : Type 0
 FoundPlansAreReadBack =
     (asked : Asked) (files : Contents) (settings : Settings) (lifted : Lifting) (ending : Ending) (plan : List ℕ)

@@ -6,3 +6,4 @@ pub mod Stops
 pub mod Puts
 pub mod Headline
 pub mod Laws
+pub mod Meanings

@@ -13,6 +13,7 @@ mod generate;
 mod ground;
 mod inputs;
 mod laws;
+mod meanings;
 mod plan;
 mod put;
 mod readers;
@@ -25,6 +26,10 @@ pub use laws::{
     answers_of_no_plan_are_true, done_answers_are_valid_plans, emptied_searches_have_no_plan,
     found_plans_are_read_back, goals_out_of_reach_have_no_plan, large_limits_are_not_reached,
     searches_are_bounded,
+};
+pub use meanings::{
+    answers_are_of_their_commands, checks_are_true, endings_have_their_statuses, no_plan_is_true,
+    unreached_goals_are_answered,
 };
 pub use reply::{Reply, Status};
 pub use run::run_words;

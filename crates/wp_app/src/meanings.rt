@@ -1,0 +1,44 @@
+//! Laws of the answers of all commands: what each status means, in the words of the definitions.
+
+ghost use Rattle.wp_app.specs.Meanings.{AnswersAreOfTheirCommands, DoneChecksHaveValidPlans, EndingsHaveTheirStatuses, InvalidChecksHaveInvalidPlans, NoPlanIsTrue, UnreachedGoalsAreAnswered};
+
+use wp_check::valid_steps_name_valid_plans;
+use wp_ground::{plans_are_valid, unreached_goals_have_no_plan, valid_plans_are_numbered};
+use wp_plain::emptied_has_no_plan;
+
+/// Which statuses each command can answer.
+pub fn answers_are_of_their_commands()
+    ensures { AnswersAreOfTheirCommands }
+{}
+
+/// `check` is done exactly where the steps of the plan file name a valid plan, and answers that the plan is invalid exactly
+/// where its steps are read and are not valid.
+pub fn checks_are_true()
+    ensures done { DoneChecksHaveValidPlans }
+    ensures invalid { InvalidChecksHaveInvalidPlans }
+{
+    valid_steps_name_valid_plans();
+}
+
+/// A search that has a task answers the status of its ending, and the status of an ending comes of such a search alone.
+pub fn endings_have_their_statuses()
+    ensures { EndingsHaveTheirStatuses }
+{}
+
+/// `ground`, `plan` and `gen` answer that a goal is out of reach exactly where it is.
+pub fn unreached_goals_are_answered()
+    ensures { UnreachedGoalsAreAnswered }
+{}
+
+/// Where any command answers that there is no plan, or that a goal is out of reach, no plan is valid.
+pub fn no_plan_is_true()
+    ensures { NoPlanIsTrue }
+{
+    endings_have_their_statuses();
+    unreached_goals_are_answered();
+    answers_are_of_their_commands();
+    emptied_has_no_plan();
+    plans_are_valid();
+    valid_plans_are_numbered();
+    unreached_goals_have_no_plan();
+}
