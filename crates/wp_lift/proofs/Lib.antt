@@ -9,3 +9,5 @@ pub mod LiftLemmas
 pub mod SubtypeLemmas
 pub mod FormedLemmas
 pub mod NamedLemmas
+pub mod FlagLemmas
+pub mod RowLemmas

@@ -12,7 +12,7 @@ use Rattle.wp_lift.specs.Laws.{RowsAreSubtypes}
 use Rattle.wp_lift.proofs.PlaceLemmas.{position-in}
 use Rattle.wp_lift.proofs.ClosureLemmas.{settled}
 
-or_true : (b : Bool) → (b || true) ≡ true
+pub or_true : (b : Bool) → (b || true) ≡ true
 or_true true = refl
 or_true false = refl
 
@@ -57,7 +57,7 @@ behind_step pairs b c h (itself a) = step a c c h (itself c)
 behind_step pairs b c h (top a _ above) = top a c (behind_step pairs b c h above)
 behind_step pairs b c h (step a m _ first above) = step a m c first (behind_step pairs b c h above)
 
-Above : List (ℕ × ℕ) → ℕ → List Bool → Type 0
+unfoldable pub Above : List (ℕ × ℕ) → ℕ → List Bool → Type 0
 Above pairs a flags = (c : ℕ) → get_or flags c false ≡ true → IsSubtype pairs a c
 
 grown_above : (pairs : List (ℕ × ℕ)) (a : ℕ) (flags : List Bool) → Above pairs a flags → Above pairs a (grown pairs flags)
@@ -120,7 +120,7 @@ last_round (suc k) pairs flags h =
       | inr more ↦ last_round k pairs (grown pairs flags) (omega (arith, grown_length pairs flags))
     ]
 
-rounds_length : (k : ℕ) (pairs : List (ℕ × ℕ)) (flags : List Bool) → length (grown_by k pairs flags) ≡ length flags
+pub rounds_length : (k : ℕ) (pairs : List (ℕ × ℕ)) (flags : List Bool) → length (grown_by k pairs flags) ≡ length flags
 rounds_length zero pairs flags = refl
 rounds_length (suc k) pairs flags = rounds_length k pairs (grown pairs flags) ∙ grown_length pairs flags
 
@@ -129,7 +129,7 @@ rounds_keep zero pairs flags b h = h
 rounds_keep (suc k) pairs flags b h = rounds_keep k pairs (grown pairs flags) b (grown_keeps pairs flags b h)
 
 -- what is above is flagged, where a round adds nothing
-Bounded : ℕ → List (ℕ × ℕ) → Type 0
+unfoldable pub Bounded : ℕ → List (ℕ × ℕ) → Type 0
 Bounded n pairs = (x m : ℕ) → Contains pairs (x, m) → m < n
 
 closed : (pairs : List (ℕ × ℕ)) (flags : List Bool) → grown pairs flags ≡ flags → Bounded (length flags) pairs
@@ -184,18 +184,18 @@ second_at n [] s k pair h e = absurd (omega arith)
 second_at n (first ∷ pairs) s zero pair h e = subst (λ (p : ℕ × ℕ). p.1 < n) e s.0
 second_at n (first ∷ pairs) s (suc k) pair h e = second_at n pairs s.1 k pair (omega arith) e
 
-pairs_bounded : (types : List (List ℕ)) (declared : List Typed) → 0 < length types → Bounded (length types) (pairs_of types declared)
+pub pairs_bounded : (types : List (List ℕ)) (declared : List Typed) → 0 < length types → Bounded (length types) (pairs_of types declared)
 unfolding Bounded
 pairs_bounded types declared h x m found = second_at (length types) (pairs_of types declared) (second_pairs types declared h) found.0 (x, m) found.1 found.2
 
 -- the flags at the start
-flags_length : (n a : ℕ) → length (flags_of n a) ≡ n
+pub flags_length : (n a : ℕ) → length (flags_of n a) ≡ n
 flags_length n a = length-map-range_with_len (λ (b : ℕ). (b == a) || (b == 0)) 0 n
 
-flags_at : (n a b : ℕ) → b < n → get_or (flags_of n a) b false ≡ ((b == a) || (b == 0))
+pub flags_at : (n a b : ℕ) → b < n → get_or (flags_of n a) b false ≡ ((b == a) || (b == 0))
 flags_at n a b h = get_or-map-range_with_len (λ (b : ℕ). (b == a) || (b == 0)) 0 n b b false h (omega arith)
 
-first_above : (pairs : List (ℕ × ℕ)) (n a : ℕ) → Above pairs a (flags_of n a)
+pub first_above : (pairs : List (ℕ × ℕ)) (n a : ℕ) → Above pairs a (flags_of n a)
 unfolding Above
 first_above pairs n a c h =
     let within : c < n = let lt = in_range (flags_of n a) c h in omega (arith, flags_length n a) in

@@ -8,7 +8,7 @@ pub mod Numbering
 pub mod Effects
 pub mod Formed
 pub mod Kept
-pub mod Marks
+pub mod Rows
 pub mod Stages
 pub mod Named
 pub mod Laws

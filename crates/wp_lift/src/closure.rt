@@ -1,17 +1,18 @@
 //! Subtypes: what the declared pairs lead to.
 
-ghost use Rattle.std.specs.Prelude.{◌≡◌, ◌++◌, ◌||◌, ◌==◌, ℕ, Bool, true, List, map, fold, length, slice_index_or, slice_set, IfOk, OnOk};
+ghost use Rattle.std.specs.Prelude.{◌≡◌, ◌<◌, map, fold, length, IfOk, OnOk};
 ghost use Rattle.std.specs.List.{range_with_len};
 ghost use Rattle.wp_syntax.specs.declared.records.Name.{Name};
-ghost use Rattle.wp_lift.specs.Typing.{type_number, pairs_of, is_flagged, flags_of, grown, grown_by, subtypes_of};
-ghost use Rattle.wp_lift.specs.Marks.{marked};
+ghost use Rattle.wp_lift.specs.Typing.{type_number, pairs_of, flags_of, subtypes_of};
+ghost use Rattle.wp_lift.specs.Rows.{marked, by_way_of, passed_on, closed_by};
 
-use crate::fault::push;
+use crate::fault::{narrow, push};
+use crate::flags::Flags;
 use crate::names::NameTable;
-use crate::types::{Flags, Rows};
+use crate::types::Rows;
 use std::alloc::{AllocError, Global};
 use wp_edge::Text;
-use wp_syntax::Typed;
+use wp_syntax::{Name, Typed};
 
 fn type_number(types: &NameTable, name: &Text) -> u32
     ensures { result ≡ type_number types.now name.now }
@@ -19,101 +20,102 @@ fn type_number(types: &NameTable, name: &Text) -> u32
     types.number_of(name).unwrap_or(0)
 }
 
-fn push_pairs(
-    pairs: &mut Vec<(u32, u32)>,
-    types: &NameTable,
-    typed: &Typed,
-) -> Result<(), AllocError>
-    ensures { OnOk result (pairs.new.items ≡ pairs.old.items
-        ++ map (λ (kind : Name). (type_number types.now typed.now.name.text, type_number types.now kind.text)) typed.now.kinds) }
+// Of one type: itself and `object` are above it.
+fn flags_of(alloc: Global, count: u32, a: u32) -> Result<Flags, AllocError>
+    ensures { IfOk result (λ flags. flags ≡ flags_of count a) }
 {
-    let below = type_number(types, &typed.name.text);
-    for kind in typed.kinds.as_slice() {
+    let mut flags = Flags::none(alloc, count)?;
+    flags.set(0);
+    flags.set(a);
+    Ok(flags)
+}
+
+fn all_flags(alloc: Global, count: u32) -> Result<Vec<Flags>, AllocError>
+    ensures { IfOk result (λ rows. rows.items ≡ map (flags_of count) (range_with_len 0 count)) }
+{
+    let mut rows = Vec::new(alloc);
+    for a in 0..count {
+        let row = flags_of(alloc, count, a)?;
+        push(&mut rows, row)?;
+    }
+    Ok(rows)
+}
+
+fn mark(rows: &mut Vec<Flags>, below: u32, above: u32)
+    ensures { rows.new.items ≡ marked rows.old.items (below, above) }
+{
+    if (below as usize) < rows.len() {
+        let row = &mut rows[below as usize];
+        row.set(above);
+    }
+}
+
+// The kinds of a declared type are above it.
+fn mark_kinds(rows: &mut Vec<Flags>, types: &NameTable, below: u32, kinds: &[Name])
+    ensures { rows.new.items ≡ fold marked rows.old.items (map (λ (kind : Name). (below, type_number types.now kind.text)) kinds.now) }
+{
+    for kind in kinds {
         let above = type_number(types, &kind.text);
-        push(pairs, (below, above))?;
+        mark(rows, below, above);
+    }
+}
+
+fn mark_all(rows: &mut Vec<Flags>, types: &NameTable, declared: &[Typed])
+    ensures { rows.new.items ≡ fold marked rows.old.items (pairs_of types.now declared.now) }
+{
+    for typed in declared {
+        let below = type_number(types, &typed.name.text);
+        mark_kinds(rows, types, below, typed.kinds.as_slice());
+    }
+}
+
+fn join_by_way(row: &mut Flags, middle: u32, above: &Flags)
+    ensures { row.new ≡ by_way_of middle above.now row.old }
+{
+    if row.at(middle) {
+        row.join(above);
+    }
+}
+
+fn join_rows(rows: &mut [Flags], middle: u32, above: &Flags)
+    ensures { rows.new ≡ map (by_way_of middle above.now) rows.old }
+{
+    for row in rows.iter_mut() {
+        join_by_way(row, middle, above);
+    }
+}
+
+// What is above a type goes to all rows that have it.
+fn pass_on(alloc: Global, rows: &mut Vec<Flags>, middle: u32) -> Result<(), AllocError>
+    requires { middle < length rows.old.items }
+    ensures { OnOk result (rows.new.items ≡ passed_on rows.old.items middle) }
+{
+    let above = rows[middle as usize].copy(alloc)?;
+    join_rows(rows.as_mut_slice(), middle, &above);
+    Ok(())
+}
+
+fn close(alloc: Global, rows: &mut Vec<Flags>, count: u32) -> Result<(), AllocError>
+    requires { count ≡ length rows.old.items }
+    ensures { OnOk result (rows.new.items ≡ closed_by count rows.old.items) }
+{
+    let mut left = count;
+    while left > 0 {
+        left -= 1;
+        pass_on(alloc, rows, left)?;
     }
     Ok(())
 }
 
-fn pairs_of(
-    alloc: Global,
-    types: &NameTable,
-    declared: &[Typed],
-) -> Result<Vec<(u32, u32)>, AllocError>
-    ensures { IfOk result (λ pairs. pairs.items ≡ pairs_of types.now declared.now) }
-{
-    let mut pairs = Vec::new(alloc);
-    for typed in declared {
-        push_pairs(&mut pairs, types, typed)?;
-    }
-    Ok(pairs)
-}
-
-fn is_flagged(flags: &[bool], place: u32) -> bool
-    ensures { result ≡ is_flagged flags.now place }
-{
-    flags.get(place as usize).copied().unwrap_or(false)
-}
-
-fn mark(flags: &mut Vec<bool>, place: u32)
-    ensures { flags.new.items ≡ slice_set flags.old.items place true }
-{
-    if (place as usize) < flags.len() {
-        flags[place as usize] = true;
-    }
-}
-
-fn mark_pair(flags: &[bool], pair: (u32, u32), more: &mut Vec<bool>)
-    ensures { more.new.items ≡ marked flags.now more.old.items pair }
-{
-    if is_flagged(flags, pair.0) {
-        mark(more, pair.1);
-    }
-}
-
-// The flags, and what one more pair leads to from them.
-fn grown(alloc: Global, pairs: &[(u32, u32)], flags: &[bool]) -> Result<Vec<bool>, AllocError>
-    ensures { IfOk result (λ more. more.items ≡ grown pairs.now flags.now) }
-{
-    let mut more = Vec::from_slice(alloc, flags)?;
-    for pair in pairs {
-        mark_pair(flags, *pair, &mut more);
-    }
-    Ok(more)
-}
-
-fn flags_of(alloc: Global, count: usize, a: usize) -> Result<Vec<bool>, AllocError>
-    ensures { IfOk result (λ flags. flags.items ≡ flags_of count a) }
-{
-    (0..count).map(|b| b == a || b == 0).collect(alloc)
-}
-
-// Of one type, for each type whether it is above.
-fn row_of(alloc: Global, pairs: &[(u32, u32)], count: usize, a: usize) -> Result<Flags, AllocError>
-    ensures { IfOk result (λ row. row ≡ grown_by count pairs.now (flags_of count a)) }
-{
-    let mut flags = flags_of(alloc, count, a)?;
-    for _round in 0..count {
-        let more = grown(alloc, pairs, flags.as_slice())?;
-        if more.as_slice() == flags.as_slice() {
-            return Ok(Flags::of_vec(flags));
-        }
-        flags = more;
-    }
-    Ok(Flags::of_vec(flags))
-}
-
-/// Of each type, for each type whether it is above.
+/// Of each type, for each type whether it is above. Whatever the pairs, a row of bits is joined to another at most once for each
+/// pair of types.
 #[tactic(auto, unfolding(crate::specs::Typing::subtypes_of))]
 pub fn subtypes_of(alloc: Global, types: &NameTable, declared: &[Typed]) -> Result<Rows, AllocError>
     ensures { IfOk result (λ rows. rows ≡ subtypes_of types.now declared.now) }
 {
-    let count = types.names().as_slice().len();
-    let pairs = pairs_of(alloc, types, declared)?;
-    let mut rows = Vec::new(alloc);
-    for a in 0..count {
-        let row = row_of(alloc, pairs.as_slice(), count, a)?;
-        push(&mut rows, row)?;
-    }
+    let count = narrow(types.names().as_slice().len())?;
+    let mut rows = all_flags(alloc, count)?;
+    mark_all(&mut rows, types, declared);
+    close(alloc, &mut rows, count)?;
     Ok(Rows::of_vec(rows))
 }

@@ -11,6 +11,7 @@
 mod atoms;
 mod closure;
 mod fault;
+mod flags;
 mod laws;
 mod lifted;
 mod lifting;

@@ -3,6 +3,7 @@
 ghost use Rattle.std.specs.Prelude.{◌≡◌, ◌++◌, ◌∷◌, [], false, slice_index_or, slice_set, IfOk};
 ghost use Rattle.std.specs.List.{list_any};
 
+use crate::flags::Flags;
 use std::alloc::AllocError;
 use std::marker::Model;
 
@@ -88,36 +89,6 @@ impl TypeLists {
             Some(numbers) => numbers.as_slice(),
             None => &[],
         }
-    }
-}
-
-/// A row of flags.
-#[derive(Drop)]
-pub struct Flags {
-    items: Vec<bool>,
-}
-
-impl Model for Flags {
-    ghost use Rattle.std.specs.Prelude.{List, Bool};
-
-    ghost Value = { List Bool };
-
-    ghost view = { λ a. a.items.items };
-}
-
-impl Flags {
-    /// The list of these items, in their order.
-    pub fn of_vec(items: Vec<bool>) -> Flags
-        ensures { result ≡ items.items }
-    {
-        Flags { items }
-    }
-
-    /// The flag at a place; false past the end.
-    pub fn at(&self, place: u32) -> bool
-        ensures { result ≡ slice_index_or self.now place false }
-    {
-        self.items.get(place as usize).copied().unwrap_or(false)
     }
 }
 
