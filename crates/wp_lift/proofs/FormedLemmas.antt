@@ -1,5 +1,5 @@
 -- Where the walk through a domain and a problem meets no fault, the lifted problem is well formed.
-use Rattle.std.proofs.Common.{◌≡◌, ℕ, suc, ◌<◌, ◌≤◌, ◌==◌, ◌&&◌, not, Bool, true, false, List, [], ◌∷◌, ◌++◌, length, map, get_or, Option, Some, None, is_none, leb, IfSome, refl, ◌∙◌, ap, subst, arith, length-append, if◌then◌else◌}
+use Rattle.std.proofs.Common.{◌≡◌, ℕ, suc, ◌<◌, ◌≤◌, ◌==◌, ◌&&◌, not, Bool, true, false, List, [], ◌∷◌, ◌++◌, length, map, get_or, Option, Some, None, is_none, leb, IfSome, refl, sym, ◌∙◌, ap, subst, arith, length-append, if◌then◌else◌}
 use Rattle.std.specs.List.{All, AllByRecursion, AllZip}
 use Rattle.std.proofs.lemmas.Bool.{leb-false, not-false}
 use Rattle.std.proofs.lemmas.List.{length-map}
@@ -34,6 +34,8 @@ use Rattle.wp_lift.specs.Walk.{Walk, Fault, fine, wrong_if, each, each_after}
 use Rattle.wp_lift.specs.Typing.{types_of, kinds_of, is_one_too_many}
 use Rattle.wp_lift.specs.Lifting.{Naming, is_variable, param_by, object_by, slot_of, pred_named, arity_of, atom_by, atom_of, cond_of, effect_of, names_of, schema_of, ground_atom_of, stated_after, with_kinds, object_of, objects_of, lifting_of}
 use Rattle.wp_lift.specs.Formed.{IsSlot, IsSlotAtom, IsSlotCond, IsSchema, IsAtom, IsTyped, IsFormed}
+use Rattle.wp_lift.proofs.SubtypeLemmas.{subtypes_length}
+use Rattle.wp_lift.proofs.KindLemmas.{types-there, objects-below, schemas-below}
 use Rattle.wp_lift.proofs.PlaceLemmas.{position-in}
 
 -- ---- walks without faults
@@ -264,12 +266,18 @@ fine-formed domain problem e =
     let fourth = none_in_both opening.faults (goals.faults ++ []) third.1 in
     let fifth = none_in_both goals.faults [] fourth.1 in
     let objects = objects_fit types.value domain.constants problem.objects second.0 in
+    let there : 0 < length types.value = types-there parts.Domain domain.types in
+    let count : length types.value ≡ length lifted.subtypes = sym (subtypes_length types.value domain.types) in
     let fitting = each_passes (schema_of types.value lifted.preds lifted.objects) (Fits lifted) (schema_fits lifted types.value) domain.actions third.0 in
     record {
       few_objects = objects.few;
       typed_objects = objects.typed;
+      objects_kinds = subst (λ n. All (All (λ (kind : ℕ). kind < n)) lifted.kinds) count
+          (objects-below types.value domain.constants problem.objects there);
       schemas_fit = All-from_recursion (IsSchema lifted) lifted.schemas (all_schemas_fit lifted schemas.value fitting);
       schemas_typed = all_schemas_typed lifted schemas.value fitting;
+      schemas_kinds = subst (λ n. All (All (All (λ (kind : ℕ). kind < n))) lifted.wanted) count
+          (schemas-below types.value lifted.preds lifted.objects domain.actions there);
       opening_fits = after_passes (stated_after naming) (All (IsAtom lifted)) (item_fits lifted parts.Problem) [] problem.init (All-nil (IsAtom lifted)) fourth.0;
       goals_fit = All-from_recursion (IsAtom lifted) goals.value
           (each_passes (ground_atom_of naming) (IsAtom lifted) (ground_atom_fits lifted parts.Problem) problem.goal fifth.0);

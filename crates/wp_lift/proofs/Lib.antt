@@ -11,3 +11,5 @@ pub mod FormedLemmas
 pub mod NamedLemmas
 pub mod FlagLemmas
 pub mod RowLemmas
+pub mod KindLemmas
+pub mod FitLemmas

@@ -29,12 +29,12 @@ in_range (flag ∷ flags) (suc k) h = let here = in_range flags k h in omega ari
 leads : List Bool → ℕ → ℕ × ℕ → Bool
 leads flags b pair = is_flagged flags pair.0 && (pair.1 == b)
 
-any_at : {X : Type 0} (p : X → Bool) (xs : List X) (k : ℕ) (x : X) → k < length xs → get_or xs k x ≡ x → p x ≡ true → list_any p xs ≡ true
+pub any_at : {X : Type 0} (p : X → Bool) (xs : List X) (k : ℕ) (x : X) → k < length xs → get_or xs k x ≡ x → p x ≡ true → list_any p xs ≡ true
 any_at p [] k x h e t = absurd (omega arith)
 any_at p (y ∷ ys) zero x h e t = ap (λ b. b || list_any p ys) (ap p e ∙ t)
 any_at p (y ∷ ys) (suc k) x h e t = ap (λ b. p y || b) (any_at p ys k x (omega arith) e t) ∙ or_true (p y)
 
-any_found : {X : Type 0} (p : X → Bool) (xs : List X) → list_any p xs ≡ true → (x : X) × Contains xs x × (p x ≡ true)
+pub any_found : {X : Type 0} (p : X → Bool) (xs : List X) → list_any p xs ≡ true → (x : X) × Contains xs x × (p x ≡ true)
 any_found p [] h = cc
 any_found p (y ∷ ys) h =
     elim (p y) as (λ b. p y ≡ b → (b || list_any p ys) ≡ true → (x : _) × Contains (y ∷ ys) x × (p x ≡ true)) [
@@ -153,7 +153,7 @@ number_below : (found : Option ℕ) (n : ℕ) → 0 < n → IfSome found (λ i. 
 number_below None n h i = h
 number_below (Some k) n h i = i
 
-type_below : (types : List (List ℕ)) (name : List ℕ) → 0 < length types → type_number types name < length types
+pub type_below : (types : List (List ℕ)) (name : List ℕ) → 0 < length types → type_number types name < length types
 type_below types name h = number_below (number_of name types) (length types) h (position-in (is_same_args name) types)
 
 Second : ℕ → List (ℕ × ℕ) → Type 0
@@ -218,6 +218,11 @@ row pairs n a b h bounded =
       rounds_above n pairs a (flags_of n a) (first_above pairs n a) b,
       λ above. all_flagged pairs flags still (subst (λ (m : ℕ). Bounded m pairs) (sym len) bounded) object above own,
     )
+
+pub subtypes_length : (types : List (List ℕ)) (declared : List Typed) → length (subtypes_of types declared) ≡ length types
+unfolding subtypes_of
+subtypes_length types declared =
+    length-map-range_with_len (λ (a : ℕ). grown_by (length types) (pairs_of types declared) (flags_of (length types) a)) 0 (length types)
 
 pub rows-subtypes : RowsAreSubtypes
 unfolding subtypes_of

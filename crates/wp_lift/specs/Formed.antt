@@ -1,5 +1,5 @@
--- What holds of the parts of each lifted problem: each number names something, an atom has as many terms as its predicate has
--- arguments, and each parameter of a schema has its types.
+-- What holds of the parts of each lifted problem: each number names something, that of a type too, an atom has as many terms as
+-- its predicate has arguments, and each parameter of a schema has its types.
 use Rattle.std.specs.Prelude.{ℕ, ◌≡◌, ◌<◌, ◌≤◌, List, length, All}
 use Rattle.std.specs.List.{AllZip}
 use Rattle.wp_lift.specs.declared.atoms.GroundAtom.{GroundAtom}
@@ -42,10 +42,16 @@ pub record IsAtom (lifted : Lifting) (atom : GroundAtom) : Type 0 where
 abbrev pub IsTyped : Schema → List (List ℕ) → Type 0
 IsTyped schema wanted = length wanted ≡ schema.arity
 
+-- numbers of types
+abbrev pub AreKinds : Lifting → List ℕ → Type 0
+AreKinds lifted kinds = All (λ kind. kind < length lifted.subtypes) kinds
+
 pub record IsFormed (lifted : Lifting) : Type 0 where
   pub few_objects : length lifted.objects ≤ 65536
   pub typed_objects : length lifted.kinds ≡ length lifted.objects
+  pub objects_kinds : All (AreKinds lifted) lifted.kinds
   pub schemas_fit : All (IsSchema lifted) lifted.schemas
   pub schemas_typed : AllZip IsTyped lifted.schemas lifted.wanted
+  pub schemas_kinds : All (All (AreKinds lifted)) lifted.wanted
   pub opening_fits : All (IsAtom lifted) lifted.opening
   pub goals_fit : All (IsAtom lifted) lifted.goals

@@ -61,6 +61,14 @@ pub data IsSubtype (pairs : List (ℕ × ℕ)) : ℕ → ℕ → Type 0 where
   top : (a c : ℕ) → IsSubtype pairs 0 c → IsSubtype pairs a c
   step : (a b c : ℕ) → Contains pairs (a, b) → IsSubtype pairs b c → IsSubtype pairs a c
 
+-- some type of an object is a subtype of some type that is wanted of it
+pub record HasSubtype (pairs : List (ℕ × ℕ)) (kinds wanted : List ℕ) : Type 0 where
+  pub kind : ℕ
+  pub above : ℕ
+  pub has : Contains kinds kind
+  pub wants : Contains wanted above
+  pub below : IsSubtype pairs kind above
+
 -- the same, computed: of one type, for each type whether it is above; it grows by the declared pairs, as often as there are types
 abbrev pub is_flagged : List Bool → ℕ → Bool
 is_flagged flags n = slice_index_or flags n false

@@ -26,7 +26,9 @@ mod typing;
 mod world;
 
 pub use atoms::{Args, GroundAtom, GroundAtoms};
-pub use laws::{liftings_are_named, rows_are_subtypes};
+pub use laws::{
+    liftings_are_formed, liftings_are_named, objects_fit_by_subtypes, rows_are_subtypes,
+};
 pub use lifted::Lifted;
 pub use lifting::lift;
 pub use meaning::{add_all, first_false, grounded, object_in};
