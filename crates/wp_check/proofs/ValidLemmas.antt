@@ -18,6 +18,7 @@ use Rattle.wp_check.specs.declared.cause.Verdict.{Verdict}
 use Rattle.wp_check.specs.declared.cause.Verdict.TheVariants.{Valid, Bad}
 use Rattle.wp_check.specs.Verdicts.{instance_of, fault_of_object, or_else, fault_of_args, fault_of_instance, if_counted, fault_of_schema, fault_of_step, verdict_at_end, verdict_from, verdict_of}
 use Rattle.wp_check.specs.Laws.{Names, ValidStepsNameValidPlans}
+use Rattle.wp_check.specs.Causes.{Applies}
 
 -- ---- the first that fails
 all_from : {X : Type 0} (p : X → Bool) (n : ℕ) (xs : List X) → position_from (λ x. not (p x)) n xs ≡ None → list_all p xs ≡ true
@@ -36,18 +37,18 @@ none_from p n (x ∷ xs) e =
       | false ↦ λ e. cc
     ] e
 
-all_pass : {X : Type 0} (p : X → Bool) (xs : List X) → position (λ x. not (p x)) xs ≡ None → list_all p xs ≡ true
+pub all_pass : {X : Type 0} (p : X → Bool) (xs : List X) → position (λ x. not (p x)) xs ≡ None → list_all p xs ≡ true
 all_pass p xs e = all_from p 0 xs (sym (position_from-zero (λ x. not (p x)) xs) ∙ e)
 
-none_fails : {X : Type 0} (p : X → Bool) (xs : List X) → list_all p xs ≡ true → position (λ x. not (p x)) xs ≡ None
+pub none_fails : {X : Type 0} (p : X → Bool) (xs : List X) → list_all p xs ≡ true → position (λ x. not (p x)) xs ≡ None
 none_fails p xs e = position_from-zero (λ x. not (p x)) xs ∙ none_from p 0 xs e
 
 -- ---- arguments
-or_none : (first other : Option Why) → or_else first other ≡ None → (first ≡ None) × (other ≡ None)
+pub or_none : (first other : Option Why) → or_else first other ≡ None → (first ≡ None) × (other ≡ None)
 or_none None other e = (refl, e)
 or_none (Some why) other e = cc
 
-object_there : (lifted : Lifting) (schema place : ℕ) (found : Option ℕ) → fault_of_object lifted schema place found ≡ None
+pub object_there : (lifted : Lifting) (schema place : ℕ) (found : Option ℕ) → fault_of_object lifted schema place found ≡ None
     → (found ≡ Some (unwrap_or found 0)) × (fits lifted schema place (unwrap_or found 0) ≡ true)
 object_there lifted schema place None e = cc
 object_there lifted schema place (Some object) e = (
@@ -58,7 +59,7 @@ object_there lifted schema place (Some object) e = (
   ] e,
 )
 
-object_fits : (lifted : Lifting) (schema place object : ℕ) → fits lifted schema place object ≡ true → fault_of_object lifted schema place (Some object) ≡ None
+pub object_fits : (lifted : Lifting) (schema place object : ℕ) → fits lifted schema place object ≡ true → fault_of_object lifted schema place (Some object) ≡ None
 object_fits lifted schema place object e =
     ap (λ (t : Bool). elim t as (λ _. Option Why) [ true ↦ None | false ↦ Some (Misfit place) ]) e
 
@@ -82,7 +83,7 @@ tail_of : (xs : List (Option ℕ)) → List (Option ℕ)
 tail_of [] = []
 tail_of (x ∷ xs) = xs
 
-args_fit : (lifted : Lifting) (schema place : ℕ) (words : List (List ℕ)) (args : List ℕ) → map (object_named lifted) words ≡ map Some args
+pub args_fit : (lifted : Lifting) (schema place : ℕ) (words : List (List ℕ)) (args : List ℕ) → map (object_named lifted) words ≡ map Some args
     → all_fit lifted schema place args ≡ true → (fault_of_args lifted schema place words ≡ None) × (objects_of lifted words ≡ args)
 unfolding head_of tail_of
 args_fit lifted schema place [] [] e h = (refl, refl)
@@ -99,11 +100,6 @@ args_fit lifted schema place (word ∷ words) (object ∷ args) e h =
     )
 
 -- ---- a step
-pub record Applies (lifted : Lifting) (world : GroundAtom → Bool) (step : Step) (named : Instance) : Type 0 where
-  pub names : Names lifted step named
-  pub instance_there : is_instance lifted named ≡ true
-  pub conditions : all_hold lifted named world ≡ true
-
 counted_none : (b : Bool) (fault : Option Why) (why : Why) → if_counted b fault (Some why) ≡ None → (b ≡ true) × (fault ≡ None)
 counted_none true fault why e = (refl, e)
 counted_none false fault why e = cc
@@ -119,28 +115,39 @@ schema_there lifted name schema e =
     let found : IfSome (schema_named lifted name) (λ i. i < length names) = position-in (is_same_args name) names in
     subst (λ n. schema < n) (length-map lifted.schemas name_of) (subst (λ (found : Option ℕ). IfSome found (λ i. i < length names)) e found)
 
-applies_by : (lifted : Lifting) (world : GroundAtom → Bool) (step : Step) (found : Option ℕ) → schema_named lifted step.name ≡ found
-    → fault_of_schema lifted world found step ≡ None → Applies lifted world step (instance_of lifted step)
-applies_by lifted world step None s e = cc
-applies_by lifted world step (Some schema) s e =
+-- a name, a number of arguments and arguments with which nothing is wrong
+pub named_by : (lifted : Lifting) (step : Step) (schema : ℕ) → schema_named lifted step.name ≡ Some schema → (length step.args == (schema_at lifted schema).arity) ≡ true
+    → fault_of_args lifted schema 0 step.args ≡ None
+    → Names lifted step (instance_of lifted step) × (is_instance lifted (instance_of lifted step) ≡ true)
+named_by lifted step schema s counted fine =
     let arity = (schema_at lifted schema).arity in
     let args = objects_of lifted step.args in
     let named : Instance = record { schema = schema; args = args } in
     let same : named ≡ instance_of lifted step = λ i. record { schema = unwrap_or (sym s i) 0; args = args } in
-    let counted = counted_none (length step.args == arity) (fault_of_instance lifted world schema step) (Arguments (length step.args) arity) e in
-    let faults = or_none (fault_of_args lifted schema 0 step.args) (option_map Condition (first_false lifted (instance_of lifted step) world)) counted.1 in
-    let objects = args_there lifted schema 0 step.args faults.0 in
-    let count : length args ≡ arity = length-map step.args (λ (word : List ℕ). unwrap_or (object_named lifted word) 0) ∙ eqb-true (length step.args) arity counted.0 in
+    let objects = args_there lifted schema 0 step.args fine in
+    let count : length args ≡ arity = length-map step.args (λ (word : List ℕ). unwrap_or (object_named lifted word) 0) ∙ eqb-true (length step.args) arity counted in
     let there : is_instance lifted named ≡ true =
     and_from _ _ (lt-ltb schema (length lifted.schemas) (schema_there lifted step.name schema s))
-    (and_from _ _ (eq-eqb (length args) arity count) objects.1) in
+    (and_from _ _ (eq-eqb (length args) arity count) objects.1) in (
+      record { schema = s ∙ ap (λ (one : Instance). Some one.schema) same; objects = objects.0 },
+      ap (is_instance lifted) (sym same) ∙ there,
+    )
+
+pub applies_by : (lifted : Lifting) (world : GroundAtom → Bool) (step : Step) (found : Option ℕ) → schema_named lifted step.name ≡ found
+    → fault_of_schema lifted world found step ≡ None → Applies lifted world step (instance_of lifted step)
+applies_by lifted world step None s e = cc
+applies_by lifted world step (Some schema) s e =
+    let arity = (schema_at lifted schema).arity in
+    let counted = counted_none (length step.args == arity) (fault_of_instance lifted world schema step) (Arguments (length step.args) arity) e in
+    let faults = or_none (fault_of_args lifted schema 0 step.args) (option_map Condition (first_false lifted (instance_of lifted step) world)) counted.1 in
+    let named = named_by lifted step schema s counted.0 faults.0 in
     record {
-      names = record { schema = s ∙ ap (λ (one : Instance). Some one.schema) same; objects = objects.0 };
-      instance_there = ap (is_instance lifted) (sym same) ∙ there;
-      conditions = all_pass (holds args world) (schema_at lifted (instance_of lifted step).schema).conds (no_condition _ faults.1);
+      names = named.0;
+      instance_there = named.1;
+      conditions = all_pass (holds (objects_of lifted step.args) world) (schema_at lifted (instance_of lifted step).schema).conds (no_condition _ faults.1);
     }
 
-no_fault : (lifted : Lifting) (world : GroundAtom → Bool) (step : Step) (named : Instance) → Applies lifted world step named
+pub no_fault : (lifted : Lifting) (world : GroundAtom → Bool) (step : Step) (named : Instance) → Applies lifted world step named
     → (fault_of_step lifted world step ≡ None) × (instance_of lifted step ≡ named)
 no_fault lifted world step named h =
     let schema = named.schema in

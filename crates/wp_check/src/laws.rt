@@ -1,5 +1,6 @@
 //! Laws of verdicts.
 
+ghost use Rattle.wp_check.specs.Causes.{VerdictsNameTheFirstCause, VerdictsNameTheFirstGoal};
 ghost use Rattle.wp_check.specs.Laws.{ValidStepsNameValidPlans};
 ghost use Rattle.wp_check.specs.PlanText.{CommentsJoin, PrintedPlansAreRead};
 ghost use Rattle.wp_check.specs.Printed.{PlansOfTextsAreReadBack, ValidPlansAreReadBack, ValidPlansGiveValidSteps};
@@ -12,6 +13,13 @@ use wp_syntax::{domains_are_named, problems_are_named};
 /// which a step is bad comes only where no valid plan has these names.
 pub fn valid_steps_name_valid_plans()
     ensures { ValidStepsNameValidPlans }
+{}
+
+/// A step is named as bad with a cause exactly where the steps before it apply in turn and the cause is the first for which it is
+/// bad after them; a goal atom is named exactly where all steps apply and it is the first that does not hold after them.
+pub fn verdicts_name_the_first()
+    ensures causes { VerdictsNameTheFirstCause }
+    ensures goals { VerdictsNameTheFirstGoal }
 {}
 
 /// Where names tell objects and schemas apart, the steps that have the names of a valid plan's instances are valid.

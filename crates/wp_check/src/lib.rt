@@ -15,7 +15,7 @@ pub use cause::{Verdict, Why};
 pub use judging::verdict;
 pub use laws::{
     comments_join, plans_of_texts_are_read_back, printed_plans_are_read, valid_plans_are_read_back,
-    valid_plans_give_valid_steps, valid_steps_name_valid_plans,
+    valid_plans_give_valid_steps, valid_steps_name_valid_plans, verdicts_name_the_first,
 };
 pub use reading::read_plan;
 pub use step::{PlanError, Step, Steps};
