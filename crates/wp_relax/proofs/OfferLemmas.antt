@@ -1,5 +1,5 @@
 -- Prices offered by one action after another.
-use Rattle.std.proofs.Common.{◌≡◌, ◌<◌, ◌+◌, ◌++◌, ◌∷◌, [], ℕ, min, Bool, true, false, cond, None, List, length, map, take, get_or, eqb, refl, sym, ap, ◌∙◌, ⊎_elim, arith}
+use Rattle.std.proofs.Common.{◌≡◌, ◌<◌, ◌+◌, ◌++◌, ◌∷◌, [], ℕ, min, Bool, true, false, cond, List, length, map, take, get_or, eqb, refl, sym, ap, ◌∙◌, ⊎_elim, arith}
 use Rattle.std.specs.List.{fold, filter, range_with_len}
 use Rattle.std.specs.List.Sorted.{IsStrictlyIncreasing}
 use Rattle.std.proofs.lemmas.Bool.{cases_eq, cond-true, cond-false, eq-eqb, ne_eqb}
@@ -9,7 +9,7 @@ use Rattle.std.proofs.lemmas.List.Sums.{fold-append}
 use Rattle.wp_task.specs.declared.acts.Act.{Act}
 use Rattle.wp_task.specs.Set.{lists}
 use Rattle.wp_task.proofs.AddersLemmas.{not_listed_before}
-use Rattle.wp_relax.specs.Frontier.{Front, Offered, offered_to, supporter_after, better, offers, least_offer, after_offer, after_offers}
+use Rattle.wp_relax.specs.Frontier.{Front, Offered, offered_to, better, offers, least_offer, after_offer, after_offers}
 use Rattle.wp_relax.proofs.StepLemmas.{listed-here, listed-other}
 
 -- one action more has offered
@@ -45,23 +45,6 @@ offers-cost acts left prices p xs now costs is = offers-fold xs now ∙ ap (λ n
       offers-fold ys (after_offer acts left prices p first y)
       ∙ (ap (λ n. fold min n (map (λ k. get_or prices k 0) (filter (offers acts left p) ys))) (cost-one (offers acts left p y) first y (get_or prices y 0))
       ∙ cost-if acts left prices p y first ys (offers acts left p y) refl)
-
--- one atom is offered a price
-pub offered-here : (old new : Front) (p a price : ℕ) → get_or new.costs p 0 ≡ min (get_or old.costs p 0) price →
-    get_or new.supporters p None ≡ supporter_after (get_or old.costs p 0) (get_or old.supporters p None) a price →
-    ((q : ℕ) → (q ≡ p → ⊥) → get_or new.costs q 0 ≡ get_or old.costs q 0) →
-    ((q : ℕ) → (q ≡ p → ⊥) → get_or new.supporters q None ≡ get_or old.supporters q None) →
-    (q : ℕ) → offered_to new q ≡ cond (eqb p q) (better (offered_to old q) a price) (offered_to old q)
-offered-here old new p a price cost supporter costs supporters q = ⊎_elim
-    (λ (same : q ≡ p).
-    ap (offered_to new) same
-    ∙ ((λ j. record { cost = cost j; supporter = supporter j })
-    ∙ sym (ap (λ (k : ℕ). better (offered_to old k) a price) same))
-    ∙ sym (cond-true (eqb p q) (better (offered_to old q) a price) (offered_to old q) (eq-eqb p q (sym same))))
-    (λ (other : q ≡ p → ⊥).
-    (λ j. record { cost = costs q other j; supporter = supporters q other j })
-    ∙ sym (cond-false (eqb p q) (better (offered_to old q) a price) (offered_to old q) (ne_eqb p q (λ (same : p ≡ q). other (sym same)))))
-    (cases_eq q p)
 
 -- one place more of a list is offered a price
 pub offered-next : (first now new : Front) (places : List ℕ) (i a price : ℕ) → IsStrictlyIncreasing places → i < length places →

@@ -1,21 +1,21 @@
 -- The supporter of an atom while prices are offered: of the actions that offered the cost that the atom has, the one of least
 -- number. An atom of the state costs less than any price, and no price is above the infinite cost.
-use Rattle.std.proofs.Common.{◌≡◌, ◌⊎◌, ◌==◌, ◌<◌, ◌≤◌, ◌-◌, ◌+◌, ℕ, nat_lt, min, Bool, true, false, cond, Option, Some, None, List, [], ◌∷◌, length, map, get_or, replicate, eqb, refl, sym, ap, ◌∙◌, subst, inl, inr, ⊎_elim, arith}
-use Rattle.std.specs.List.{All, find, sum_by, range_with_len}
+use Rattle.std.proofs.Common.{◌≡◌, ◌⊎◌, ◌==◌, ◌<◌, ◌≤◌, ℕ, nat_lt, min, Bool, true, false, cond, Option, Some, None, List, [], ◌∷◌, length, get_or, replicate, refl, sym, ap, ◌∙◌, subst, inl, inr, ⊎_elim, arith}
+use Rattle.std.specs.List.{All, find, range_with_len}
 use Rattle.std.specs.List.Sorted.{IsStrictlyIncreasing}
-use Rattle.std.proofs.lemmas.Bool.{cases_eq, cases_lt, cases_Bool, both_ways, cond-true, cond-false, lt-ltb, le-ltb, eq-eqb, ne_eqb, eqb-true, and_parts, and_from, not-true}
+use Rattle.std.proofs.lemmas.Bool.{cases_lt, cases_Bool, both_ways, cond-true, cond-false, lt-ltb, le-ltb, eq-eqb, ne_eqb, eqb-true, and_parts, and_from}
 use Rattle.std.proofs.lemmas.List.{get_or-replicate, length-replicate}
-use Rattle.std.proofs.lemmas.List.Elements.{All-contains, All-get_or, All-head}
+use Rattle.std.proofs.lemmas.List.Elements.{All-contains}
 use Rattle.std.proofs.lemmas.List.FromFn.{fill_by_all}
 use Rattle.std.proofs.lemmas.List.Kept.{IsStrictlyIncreasing-filter}
 use Rattle.wp_task.specs.declared.acts.Act.{Act}
 use Rattle.wp_task.specs.Set.{has, lists}
-use Rattle.wp_task.specs.Task.{act_at, adders_of, needers_of, IsAct}
-use Rattle.wp_task.proofs.TaskLemmas.{range_below, needers_below}
-use Rattle.wp_task.proofs.Members.{In, In-filter, In-from_Contains, Contains-from_In}
+use Rattle.wp_task.specs.Task.{act_at, adders_of, IsAct}
+use Rattle.wp_task.proofs.TaskLemmas.{range_below}
+use Rattle.wp_task.proofs.Members.{In, In-filter, Contains-from_In}
 use Rattle.wp_relax.specs.AdditiveCost.{infinite, price_of, supporter_of, supporters_of}
 use Rattle.wp_relax.specs.Laws.{IsAdder}
-use Rattle.wp_relax.specs.Frontier.{Front, Offered, IsSpent, offered_to, preferred, supporter_after, better, offers, after_offer, after_offers}
+use Rattle.wp_relax.specs.Frontier.{Front, Offered, IsSpent, offered_to, preferred, better, offers, after_offer, after_offers}
 use Rattle.wp_relax.proofs.Listed.{In-from_lists, In-range}
 use Rattle.wp_relax.proofs.SumLemmas.{rises-tail, rises-head}
 use Rattle.wp_relax.proofs.SupporterLemmas.{supporter_of-found}

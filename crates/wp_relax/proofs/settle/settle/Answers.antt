@@ -1,15 +1,15 @@
-use Rattle.std.proofs.Common.{◌≡◌, ◌<◌, ◌≤◌, ◌+◌, ◌-◌, ℕ, min, cond, false, None, Option, Bool, List, length, map, get_or, replicate, sym, ap, ◌∙◌, subst, arith}
+use Rattle.std.proofs.Common.{◌≡◌, ◌<◌, ◌+◌, ◌-◌, ℕ, min, cond, false, None, Bool, List, length, get_or, replicate, sym, ap, ◌∙◌, subst, arith}
 use Rattle.std.specs.List.{All}
 use Rattle.std.specs.List.Sorted.{IsStrictlyIncreasing}
 use Rattle.std.proofs.lemmas.Bool.{cond-false}
-use Rattle.std.proofs.lemmas.List.{length-map, length-replicate, get_or-replicate}
+use Rattle.std.proofs.lemmas.List.{length-map, length-replicate}
 use Rattle.std.proofs.lemmas.List.Elements.{All-same}
 use Rattle.wp_task.specs.declared.acts.Act.{Act}
 use Rattle.wp_task.specs.Set.{lists}
-use Rattle.wp_task.specs.Task.{needers_of, act_at, IsAct}
+use Rattle.wp_task.specs.Task.{needers_of, IsAct}
 use Rattle.wp_task.proofs.TaskLemmas.{needers_below}
 use Rattle.wp_relax.specs.AdditiveCost.{infinite, supporters_of}
-use Rattle.wp_relax.specs.Frontier.{Front, IsNearest, least_offer, offered_to, after_offers}
+use Rattle.wp_relax.specs.Frontier.{IsNearest, least_offer, offered_to, after_offers}
 use Rattle.wp_relax.proofs.InOrder.{IsSettling, is_start, starts, ends}
 use Rattle.wp_relax.proofs.OfferLemmas.{offers-cost}
 use Rattle.wp_relax.proofs.OneSettled.{waits, prices-bounded, steps}

@@ -1,8 +1,6 @@
-use Rattle.std.proofs.Common.{◌≡◌, ◌&&◌, ◌||◌, not, Bool, true, false, None, Option, ℕ, List, length, get_or, refl, sym, ap, ◌∙◌, arith}
-use Rattle.std.proofs.lemmas.List.{length-replicate}
+use Rattle.std.proofs.Common.{◌≡◌, ◌&&◌, ◌||◌, not, Bool, true, false, None, ℕ, get_or, refl, sym, ap, ◌∙◌}
 use Rattle.std.specs.List.{list_any, range_with_len}
 use Rattle.wp_task.specs.Set.{has}
-use Rattle.wp_task.proofs.SetLemmas.{has-replicate}
 use Rattle.wp_relax.specs.RelaxedPlan.{adds}
 use Rattle.wp_relax.proofs.FlagLemmas.{list_any-range_more}
 use Rattle.wp_relax.proofs.wanted.add_all.Goals as goal

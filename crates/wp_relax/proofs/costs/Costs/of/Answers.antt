@@ -1,6 +1,6 @@
-use Rattle.std.proofs.Common.{◌≡◌, length, ap, sym, ◌∙◌, subst}
+use Rattle.std.proofs.Common.{length, ap, sym, ◌∙◌, subst}
 use Rattle.std.proofs.lemmas.List.FromFn.{length-map-range_with_len}
-use Rattle.wp_relax.specs.AdditiveCost.{costs_of, supporter_of, supporters_of}
+use Rattle.wp_relax.specs.AdditiveCost.{costs_of, supporter_of}
 use Rattle.wp_relax.specs.RelaxedPlan.{AreActs}
 use Rattle.wp_relax.proofs.CostLemmas.{length-costs_of, costs_of-bounded}
 use Rattle.wp_relax.proofs.SupporterLemmas.{supporters_are_acts}
