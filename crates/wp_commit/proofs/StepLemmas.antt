@@ -1,5 +1,5 @@
 -- The step of the search, test by test.
-use Rattle.std.proofs.Common.{◌≡◌, ◌==◌, true, false, List, Option, Some, None, length, ap, ◌∙◌}
+use Rattle.std.proofs.Common.{◌≡◌, List, Option, Some, None, ◌∙◌}
 use Rattle.std.specs.Prelude.{Contains}
 use Rattle.std.proofs.lemmas.List.Elements.{All-contains_itself, All-weaker}
 use Rattle.wp_task.specs.Task.{PlanningTask}
@@ -9,11 +9,7 @@ use Rattle.wp_nodes.specs.KeptNodes.{Keeping}
 use Rattle.wp_nodes.specs.Links.{along, FollowLinks}
 use Rattle.wp_plain.specs.declared.settings.Settings.{Settings}
 use Rattle.wp_plain.specs.declared.ending.How.{How}
-use Rattle.wp_plain.specs.declared.ending.How.TheVariants.{Found, Budget}
-use Rattle.wp_plain.specs.Nodes.{Node, path_at}
-use Rattle.wp_plain.specs.Pairs.{all_tuples}
-use Rattle.wp_plain.specs.Run.{Moment, Outcome, expand, look_at}
-use Rattle.wp_plain.specs.Run.Outcome.{Ends}
+use Rattle.wp_plain.specs.Run.{Moment, Outcome}
 use Rattle.wp_commit.specs.Searched.{plans_in, AreKept, Progress, Steps}
 
 -- outcomes that are the same
