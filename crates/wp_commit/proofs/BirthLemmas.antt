@@ -7,7 +7,7 @@ use Rattle.std.proofs.lemmas.Option.{IfSome_then}
 use Rattle.wp_task.specs.Novelty.{Generated, novelty_of}
 use Rattle.wp_count.specs.declared.brood.Child.{Child}
 use Rattle.wp_novel.specs.declared.birth.Pair.{Pair}
-use Rattle.wp_novel.specs.declared.birth.Birth.{Birth}
+use Rattle.wp_novel.specs.Births.{Birth}
 use Rattle.wp_novel.specs.NoveltyTables.{NoveltyTables, IsOpen}
 use Rattle.wp_novel.specs.StandsFor.{generated_of, StandsFor}
 use Rattle.wp_plain.specs.Explored.{numbered, all_numbered}

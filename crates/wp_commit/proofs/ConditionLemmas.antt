@@ -12,7 +12,7 @@ use Rattle.wp_task.specs.Novelty.{Generated, novelty_of}
 use Rattle.wp_task.proofs.Members.{In, In-at, In-map, In-map_cases, In-append_right}
 use Rattle.wp_count.specs.declared.brood.Child.{Child}
 use Rattle.wp_novel.specs.declared.birth.Pair.{Pair}
-use Rattle.wp_novel.specs.declared.birth.Birth.{Birth}
+use Rattle.wp_novel.specs.Births.{Birth}
 use Rattle.wp_novel.specs.NoveltyTables.{is_pair, words_of, IsOpen}
 use Rattle.wp_novel.specs.StandsFor.{last_number}
 use Rattle.wp_novel.proofs.TableLemmas.{is_pair_itself}

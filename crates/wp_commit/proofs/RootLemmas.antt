@@ -9,7 +9,7 @@ use Rattle.wp_task.specs.Task.{PlanningTask}
 use Rattle.wp_task.specs.Novelty.{Generated, novelty_of}
 use Rattle.wp_count.specs.Laws.{HasCounters, IsMarked, MarksCount}
 use Rattle.wp_novel.specs.declared.birth.Pair.{Pair}
-use Rattle.wp_novel.specs.declared.birth.Birth.{Birth}
+use Rattle.wp_novel.specs.Births.{Birth}
 use Rattle.wp_novel.specs.NoveltyTables.{NoveltyTables, is_pair, words_of, IsOpen}
 use Rattle.wp_novel.specs.StandsFor.{generated_of, StandsFor}
 use Rattle.wp_novel.proofs.TableLemmas.{is_pair_itself}

@@ -8,7 +8,7 @@ use Rattle.wp_count.specs.Laws.{mark_of}
 use Rattle.wp_watch.specs.declared.event.Born.{Born}
 use Rattle.wp_watch.specs.declared.event.Event.{Event}
 use Rattle.wp_novel.specs.declared.birth.Pair.{Pair}
-use Rattle.wp_novel.specs.declared.birth.Birth.{Birth}
+use Rattle.wp_novel.specs.Births.{Birth}
 use Rattle.wp_novel.specs.NoveltyTables.{words_of, IsOpen}
 use Rattle.wp_queue.specs.declared.queue.Waiting.{Waiting}
 use Rattle.wp_queue.specs.OpenList.{waiting, InOrder}

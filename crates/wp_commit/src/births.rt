@@ -2,7 +2,7 @@
 ghost use Rattle.std.specs.Prelude.{◌≡◌, ◌+◌, ◌<◌, ◌^◌, ◌++◌, List, false, length, map, All, Contains, IfOk, OnOk, IfSome};
 ghost use Rattle.std.specs.Map.{keys_of};
 ghost use Rattle.wp_task.specs.Novelty.{Generated, novelty_of};
-ghost use Rattle.wp_novel.specs.declared.birth.Birth.{Birth};
+ghost use Rattle.wp_novel.specs.Births.{Birth};
 ghost use Rattle.wp_novel.specs.NoveltyTables.{IsOpen};
 ghost use Rattle.wp_novel.specs.StandsFor.{generated_of, StandsFor};
 ghost use Rattle.wp_plain.specs.Explored.{numbered, all_numbered};
@@ -96,14 +96,12 @@ fn births_of(alloc: Global, first: u64, children: &[Child]) -> Result<Births, Al
 fn birth_of(alloc: Global, number: u64, child: &Child) -> Result<Birth, AllocError>
     ensures { IfOk result (λ birth. birth ≡ birth_of (numbered number child.now)) }
 {
-    Ok(Birth {
-        number,
-        pair: Pair {
-            g: child.g,
-            r: child.r,
-        },
-        state: child.state.copy(alloc)?,
-    })
+    let pair = Pair {
+        g: child.g,
+        r: child.r,
+    };
+    let state = child.state.copy(alloc)?;
+    Birth::of(alloc, number, pair, state)
 }
 
 /// The children with their numbers and novelties, once they are entered as these births.
@@ -141,7 +139,7 @@ fn newborn_of(tables: &mut Tables, birth: &Birth, child: Child) -> Newborn
     ensures same { tables.new ≡ tables.old }
 {
     Newborn {
-        number: birth.number,
+        number: birth.number(),
         w: tables.novelty(birth),
         child,
     }

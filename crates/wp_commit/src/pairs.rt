@@ -2,7 +2,7 @@
 ghost use Rattle.std.specs.Prelude.{◌≡◌, ◌+◌, ◌*◌, ◌≤◌, [], ◌∷◌, ◌++◌, List, None, length, map, fold, IfOk, OnOk};
 ghost use Rattle.std.specs.Map.{keys_of};
 ghost use Rattle.wp_tuples.specs.TuplePlaces.{tuples_of};
-ghost use Rattle.wp_novel.specs.declared.birth.Birth.{Birth};
+ghost use Rattle.wp_novel.specs.Births.{Birth};
 ghost use Rattle.wp_novel.specs.NoveltyTables.{words_of};
 ghost use Rattle.wp_novel.specs.StandsFor.{StandsFor};
 ghost use Rattle.wp_plain.specs.Pairs.{with_pair};

@@ -38,11 +38,8 @@ pub(crate) fn opening(
     counters_are_carried();
     let (state, mark, track) = root_of(alloc, task)?;
     let g = mark.g;
-    let root = Birth {
-        number: 0,
-        pair: Pair { g, r: mark.r },
-        state: state.copy(alloc)?,
-    };
+    let copy = state.copy(alloc)?;
+    let root = Birth::of(alloc, 0, Pair { g, r: mark.r }, copy)?;
     let w = enter_root(alloc, tables, root)?;
     let mut nodes = Nodes::new(alloc);
     nodes.add_track(track)?;
@@ -78,7 +75,7 @@ fn enter_root(alloc: Global, tables: &mut Tables, root: Birth) -> Result<u8, All
     ensures index { OnOk result (tables.new.index ≡ tables.old.index) }
     ensures limit { OnOk result (tables.new.limit ≡ tables.old.limit) }
 {
-    open(tables, root.pair)?;
+    open(tables, root.pair())?;
     let mut births = Vec::new(alloc);
     births.push(root)?;
     let births = tables.enter(Births::of_vec(births));

@@ -4,7 +4,7 @@ use Rattle.std.specs.List.{Contains}
 use Rattle.std.proofs.lemmas.Bool.{cases_Bool, cases_lt, cond-true, cond-false}
 use Rattle.wp_task.proofs.Members.{In, In-from_Contains, Contains-from_In}
 use Rattle.wp_novel.specs.declared.birth.Pair.{Pair}
-use Rattle.wp_novel.specs.declared.birth.Birth.{Birth}
+use Rattle.wp_novel.specs.Births.{Birth}
 use Rattle.wp_novel.specs.StandsFor.{has_tuple, first_number, IsFirstNumber}
 
 pub greatest : (births : List Birth) (pair : Pair) (tuple : List ℕ) → first_number births pair tuple ≤ 2 ^ 64 - 1

@@ -1,3 +1,5 @@
+pub mod AtomLemmas
+pub mod TrueTupleLemmas
 pub mod MarkLemmas
 pub mod TupleLemmas
 pub mod FirstLemmas

@@ -2,7 +2,7 @@
 use Rattle.std.proofs.Common.{◌≡◌, ◌⊎◌, ℕ, ◌+◌, ◌-◌, ◌^◌, ◌<◌, ◌≤◌, Bool, true, List, [], ◌∷◌, length, map, Some, refl, sym, ap, ◌∙◌, subst, inl, inr, ⊎_elim, arith}
 use Rattle.std.specs.Prelude.{slice_index}
 use Rattle.std.specs.List.{Contains, All, list_all}
-use Rattle.std.proofs.lemmas.Bool.{cases_lt, cases_order, and_parts, and_from, both_ways}
+use Rattle.std.proofs.lemmas.Bool.{cases_order, and_parts, and_from}
 use Rattle.std.proofs.lemmas.List.Elements.{All-nil, All-cons, All-head, All-tail}
 use Rattle.wp_task.specs.Set.{has, IsIn}
 use Rattle.wp_task.specs.Novelty.{Generated, IsNewAt, HasNovelty, novelty_of}
@@ -10,12 +10,12 @@ use Rattle.wp_task.proofs.Members.{In, In-from_Contains, Contains-from_In, In-ma
 use Rattle.wp_task.proofs.NoveltyLemmas.{novelty_is_computed}
 use Rattle.wp_tuples.specs.TuplePlaces.{place_of, tuples_of}
 use Rattle.wp_novel.specs.declared.birth.Pair.{Pair}
-use Rattle.wp_novel.specs.declared.birth.Birth.{Birth}
+use Rattle.wp_novel.specs.Births.{Birth}
 use Rattle.wp_novel.specs.NoveltyTables.{NoveltyTables, AreFilled, is_pair, words_of}
 use Rattle.wp_novel.specs.StandsFor.{generated_of, has_tuple, first_number, StandsFor}
 use Rattle.wp_novel.specs.Marks.{IsLeastSize}
 use Rattle.wp_novel.proofs.FirstLemmas.{first_number_is_first}
-use Rattle.wp_novel.proofs.MarkLemmas.{none_past}
+use Rattle.wp_novel.proofs.AtomLemmas.{has_below}
 use Rattle.wp_novel.proofs.TupleLemmas.{atom_is_tuple, pair_is_tuple}
 use Rattle.wp_novel.proofs.TableLemmas.{same_pair, is_pair_itself}
 
@@ -29,12 +29,6 @@ all_from state [] h = All-nil (IsIn state)
 all_from state (p ∷ tuple) h =
     let parts = and_parts (has state p) (list_all (has state) tuple) h in
     All-cons (IsIn state) p tuple parts.0 (all_from state tuple parts.1)
-
-below : (state : List Bool) (p : ℕ) → has state p ≡ true → p < length state
-below state p h = ⊎_elim
-    (λ (less : p < length state). less)
-    (λ (past : length state ≤ p). absurd (both_ways (has state p) (none_past state (length state) p refl past) h))
-    (cases_lt p (length state))
 
 -- ---- births as nodes
 abbrev counters_of : Pair → ℕ × ℕ
@@ -128,7 +122,7 @@ has_novelty t births x words w filled stands found fits word size = record {
         not_new births x tuple word early at
 
     within : (p : ℕ) → has x.state p ≡ true → p < t.index.atoms
-    within p h = let less : p < length x.state = below x.state p h in omega arith
+    within p h = let less : p < length x.state = has_below x.state p h in omega arith
 
     one_old : (p : ℕ) → 1 < w → ¬ (IsNewAt nodes (generated_of x) (p ∷ []))
     one_old p short at = old (p ∷ []) (atom_is_tuple t.index p filled.width.0 filled.width.1 (within p (All-head (IsIn x.state) p [] at.holds))) short at

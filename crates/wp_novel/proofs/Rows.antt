@@ -1,7 +1,7 @@
 -- First numbers of a few births.
 use Rattle.std.proofs.Common.{◌≡◌, ◌-◌, ◌^◌, true, false, List, [], ◌∷◌, Some, None, refl}
 use Rattle.wp_novel.specs.declared.birth.Pair.{Pair}
-use Rattle.wp_novel.specs.declared.birth.Birth.{Birth}
+use Rattle.wp_novel.specs.Births.{Birth}
 use Rattle.wp_novel.specs.StandsFor.{first_number, last_number}
 
 abbrev near : Pair

@@ -1,42 +1,17 @@
 -- From single atoms and pairs to all tuples of an index.
-use Rattle.std.proofs.Common.{◌≡◌, ◌&&◌, ℕ, ◌+◌, ◌<◌, ◌≤◌, Bool, true, List, [], ◌∷◌, length, refl, sym, ap, ◌∙◌, subst, inl, inr, ⊎_elim, arith}
+use Rattle.std.proofs.Common.{◌≡◌, ◌&&◌, ℕ, zero, suc, ◌+◌, ◌<◌, ◌≤◌, Bool, true, get_or, List, [], ◌∷◌, length, refl, sym, ap, ◌∙◌, subst, inl, inr, ⊎_elim, arith}
 use Rattle.std.specs.Prelude.{slice_index}
-use Rattle.std.specs.List.{Contains, list_all}
-use Rattle.std.proofs.lemmas.Bool.{and_parts, and_from}
-use Rattle.wp_task.specs.Set.{has}
+use Rattle.std.specs.List.{All, Contains, list_all}
+use Rattle.std.proofs.lemmas.Bool.{cases_lt, and_parts, and_from}
+use Rattle.std.proofs.lemmas.List.Kept.{AllPairs-from_increasing}
+use Rattle.wp_task.specs.Set.{has, atoms_in, AreAtoms}
+use Rattle.wp_task.proofs.Members.{In, In-at, Contains-from_In}
 use Rattle.wp_tuples.specs.TuplePlaces.{Indexed, place_of, tuples_of}
-use Rattle.wp_novel.specs.Marks.{lowered, IsMarked, IsLeastSize}
-use Rattle.wp_novel.proofs.MarkLemmas.{none_past, row, and_true}
+use Rattle.wp_novel.specs.Marks.{IsLeastSize}
+use Rattle.wp_novel.proofs.AtomLemmas.{in_atoms, has_atoms}
+use Rattle.wp_novel.proofs.MarkLemmas.{row}
+use Rattle.wp_novel.proofs.TrueTupleLemmas.{and_true, all_of_pair}
 use Rattle.wp_novel.proofs.TupleLemmas.{IsAtom, IsPairOfAtoms, tuple_cases, atom_is_tuple, pair_is_tuple}
-
-pub all_of_pair : (state : List Bool) (p q : ℕ) → list_all (has state) (p ∷ q ∷ []) ≡ (has state p && has state q)
-all_of_pair state p q = ap (λ b. has state p && b) (and_true (has state q))
-
--- ---- marks
-pub marked : (index : Indexed) (state : List Bool) (number : ℕ) (old new : List ℕ) → 1 ≤ index.width → index.width ≤ 2 → length new ≡ length old →
-    ((t : ℕ) → t < index.atoms → slice_index new t ≡ lowered (has state t) number (slice_index old t)) →
-    (index.width ≡ 2 → (p q : ℕ) → p < q → q < index.atoms →
-    slice_index new (row index.atoms q + p) ≡ lowered (has state p && has state q) number (slice_index old (row index.atoms q + p))) →
-    IsMarked index state number old new
-marked index state number old new low high len atoms pairs = record {
-  len = len;
-  words = λ tuple h.
-      let Goal : List ℕ → Type 0 = λ (t : List ℕ). slice_index new (place_of index.atoms t) ≡ lowered (list_all (has state) t) number (slice_index old (place_of index.atoms t)) in
-      ⊎_elim
-      (λ (one : IsAtom index.atoms tuple).
-      subst Goal (sym one.2) (atoms one.0 one.1 ∙ ap (λ b. lowered b number (slice_index old one.0)) (sym (and_true (has state one.0)))))
-      (λ (two : (index.width ≡ 2) × IsPairOfAtoms index.atoms tuple).
-      let pair : IsPairOfAtoms index.atoms tuple = two.1 in
-      subst Goal (sym pair.4) (pairs two.0 pair.0 pair.1 pair.2 pair.3
-      ∙ ap (λ b. lowered b number (slice_index old (row index.atoms pair.1 + pair.0))) (sym (all_of_pair state pair.0 pair.1))))
-      (tuple_cases index tuple low high h);
-}
-
--- what is marked at single atoms leaves the words of pairs
-pub pairs_stay : (atoms : ℕ) (state : List Bool) (number : ℕ) (old new : List ℕ) → length state ≡ atoms →
-    ((t : ℕ) → slice_index new t ≡ lowered (has state t) number (slice_index old t)) → (p q : ℕ) → slice_index new (row atoms q + p) ≡ slice_index old (row atoms q + p)
-pairs_stay atoms state number old new size words p q =
-    words (row atoms q + p) ∙ ap (λ b. lowered b number (slice_index old (row atoms q + p))) (none_past state atoms (row atoms q + p) size (omega arith))
 
 -- ---- least sizes
 abbrev IsAtomSize : Indexed → List Bool → ℕ → List ℕ → Type 0
@@ -107,3 +82,68 @@ no_size index state number words low high atoms pairs = record {
   least = least index state number words (index.width + 1) low high (λ more. atoms) (λ more. pairs);
   attained = inl refl;
 }
+
+-- ---- by the list of the atoms
+module _ (index : Indexed) (state : List Bool) (number : ℕ) (words atoms : List ℕ) (are : AreAtoms index.atoms atoms) (listed : atoms ≡ atoms_in state) where
+  place_in : (p : ℕ) → has state p ≡ true → (k : ℕ) × (k < length atoms) × (get_or atoms k 0 ≡ p)
+  place_in p passes =
+      let there : Contains atoms p = Contains-from_In p atoms (subst (In p) (sym listed) (in_atoms state p passes)) in
+      let found : (k : ℕ) × (k < length atoms) × (get_or atoms k 0 ≡ p) = (there.0, there.1, default atoms there.0 p there.1 there.2) in found
+    where
+      default : (xs : List ℕ) (k d : ℕ) → k < length xs → get_or xs k d ≡ d → get_or xs k 0 ≡ d
+      default [] k d h e = absurd (omega arith)
+      default (x ∷ xs) zero d h e = e
+      default (x ∷ xs) (suc k) d h e = default xs k d (omega arith) e
+
+  has_at : (k : ℕ) → k < length atoms → has state (get_or atoms k 0) ≡ true
+  has_at k within =
+      has_atoms state (get_or atoms k 0) (subst (In (get_or atoms k 0)) listed (In-at (get_or atoms k 0) atoms k within (same atoms k within)))
+    where
+      same : (xs : List ℕ) (k : ℕ) → k < length xs → get_or xs k (get_or xs k 0) ≡ get_or xs k 0
+      same [] k h = absurd (omega arith)
+      same (x ∷ xs) zero h = refl
+      same (x ∷ xs) (suc k) h = same xs k (omega arith)
+
+  pub atoms_early : All (λ p. slice_index words (0 + p) < number) atoms → (p : ℕ) → has state p ≡ true → slice_index words p < number
+  atoms_early all p passes =
+      let found = place_in p passes in
+      let early : slice_index words (0 + get_or atoms found.0 0) < number = all found.0 0 found.1 in
+      let same : 0 + get_or atoms found.0 0 ≡ p = omega (arith, found.2) in
+      subst (λ (q : ℕ). slice_index words q < number) same early
+
+  pub atom_late : (k : ℕ) → k < length atoms → number ≤ slice_index words (0 + get_or atoms k 0) → IsAtomSize index state number words
+  atom_late k within late =
+      let p : ℕ = get_or atoms k 0 in
+      let same : 0 + p ≡ p = omega arith in
+      let below : p < index.atoms = are.below k 0 within in
+      let there : number ≤ slice_index words p = subst (λ (q : ℕ). number ≤ slice_index words q) same late in
+      let found : IsAtomSize index state number words = (p, below, has_at k within, there) in found
+
+  pub pairs_early : ((i j : ℕ) → i < j → j < length atoms → slice_index words (row index.atoms (get_or atoms j 0) + get_or atoms i 0) < number) →
+      (p q : ℕ) → p < q → has state p ≡ true → has state q ≡ true → slice_index words (row index.atoms q + p) < number
+  pairs_early all p q less one other =
+      let at_p = place_in p one in
+      let at_q = place_in q other in
+      let order : at_p.0 < at_q.0 = ⊎_elim
+      (λ (before : at_p.0 < at_q.0). before)
+      (λ (after : at_q.0 ≤ at_p.0). ⊎_elim
+      (λ (strict : at_q.0 < at_p.0).
+      let wrong : get_or atoms at_q.0 0 < get_or atoms at_p.0 0 = AllPairs-from_increasing atoms are.rising at_q.0 at_p.0 0 strict at_p.1 in
+      absurd (omega (arith, at_p.2, at_q.2)))
+      (λ (equal : at_p.0 ≤ at_q.0).
+      let same : at_p.0 ≡ at_q.0 = omega arith in
+      let value : get_or atoms at_p.0 0 ≡ get_or atoms at_q.0 0 = ap (λ k. get_or atoms k 0) same in
+      absurd (omega (arith, at_p.2, at_q.2)))
+      (cases_lt at_q.0 at_p.0))
+      (cases_lt at_p.0 at_q.0) in
+      let early = all at_p.0 at_q.0 order at_q.1 in
+      subst (λ (k : ℕ). slice_index words (row index.atoms q + k) < number) at_p.2
+      (subst (λ (k : ℕ). slice_index words (row index.atoms k + get_or atoms at_p.0 0) < number) at_q.2 early)
+
+  pub pair_late : (i j : ℕ) → i < j → j < length atoms → number ≤ slice_index words (row index.atoms (get_or atoms j 0) + get_or atoms i 0) →
+      IsPairSize index state number words
+  pair_late i j less within late =
+      let rise : get_or atoms i 0 < get_or atoms j 0 = AllPairs-from_increasing atoms are.rising i j 0 less within in
+      let below : get_or atoms j 0 < index.atoms = are.below j 0 within in
+      let found : IsPairSize index state number words =
+      (get_or atoms i 0, get_or atoms j 0, rise, below, has_at i (omega arith), has_at j within, late) in found

@@ -16,7 +16,7 @@ use Rattle.wp_task.specs.Set.{has}
 use Rattle.wp_tuples.specs.TuplePlaces.{Indexed, place_of, tuples_of}
 use Rattle.wp_tuples.proofs.PlaceLemmas.{are_numbered}
 use Rattle.wp_novel.specs.declared.birth.Pair.{Pair}
-use Rattle.wp_novel.specs.declared.birth.Birth.{Birth}
+use Rattle.wp_novel.specs.Births.{Birth}
 use Rattle.wp_novel.specs.NoveltyTables.{NoveltyTables, AreWords, AreFilled, is_pair, words_of, IsOpen}
 use Rattle.wp_novel.specs.StandsFor.{has_tuple, first_number, last_number, last_after, StandsFor}
 use Rattle.wp_novel.specs.Marks.{lowered, after_birth, IsMarked, IsEntered, AreLowered, AreEntered}

@@ -1,3 +1,5 @@
+pub mod Births
+pub mod TrueTuples
 pub mod NoveltyTables
 pub mod StandsFor
 pub mod Marks

@@ -1,12 +1,12 @@
 -- What marks leave in the words of tables.
-use Rattle.std.specs.Prelude.{◌≡◌, ℕ, ◌+◌, ◌-◌, ◌*◌, ◌/◌, ◌<◌, ◌≤◌, ◌&&◌, ◌⊎◌, nat_lt, not, min, Bool, true, List, length, Contains, Some, slice_index, fold, if◌then◌else◌}
+use Rattle.std.specs.Prelude.{◌≡◌, ℕ, ◌+◌, ◌<◌, ◌≤◌, ◌⊎◌, min, Bool, true, List, length, Contains, Some, slice_index, slice_set, fold, if◌then◌else◌}
 use Rattle.std.specs.Bool.{MatchBool}
 use Rattle.std.specs.List.{list_all}
 use Rattle.std.specs.Map.{keys_of}
 use Rattle.wp_task.specs.Set.{has}
 use Rattle.wp_tuples.specs.TuplePlaces.{Indexed, place_of, tuples_of}
 use Rattle.wp_novel.specs.declared.birth.Pair.{Pair}
-use Rattle.wp_novel.specs.declared.birth.Birth.{Birth}
+use Rattle.wp_novel.specs.Births.{Birth}
 use Rattle.wp_novel.specs.NoveltyTables.{is_pair, words_of}
 use Rattle.wp_novel.specs.StandsFor.{has_tuple}
 
@@ -14,11 +14,13 @@ use Rattle.wp_novel.specs.StandsFor.{has_tuple}
 abbrev pub lowered : Bool → ℕ → ℕ → ℕ
 lowered marked number word = if marked then min word number else word
 
--- whether the place is one of the pairs of q with a lesser atom of the state
-abbrev pub pairs_with : ℕ → List Bool → ℕ → ℕ → Bool
-pairs_with atoms state q place =
-    let row = atoms + q * (q - 1) / 2 in
-    not (nat_lt place row) && (nat_lt place (row + q) && has state (place - row))
+-- the words, after a number was marked at a place
+abbrev pub marked_at : ℕ → List ℕ → ℕ → List ℕ
+marked_at number words place = slice_set words place (min (slice_index words place) number)
+
+-- the words, after it was marked at the place of a tuple
+abbrev pub marked_by : ℕ → ℕ → List ℕ → List ℕ → List ℕ
+marked_by atoms number words tuple = marked_at number words (place_of atoms tuple)
 
 -- the number was marked at each tuple of the state
 pub record IsMarked (index : Indexed) (state : List Bool) (number : ℕ) (old new : List ℕ) : Type 0 where

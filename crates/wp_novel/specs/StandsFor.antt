@@ -8,7 +8,7 @@ use Rattle.wp_task.specs.Set.{has}
 use Rattle.wp_task.specs.Novelty.{Generated}
 use Rattle.wp_tuples.specs.TuplePlaces.{place_of, tuples_of}
 use Rattle.wp_novel.specs.declared.birth.Pair.{Pair}
-use Rattle.wp_novel.specs.declared.birth.Birth.{Birth}
+use Rattle.wp_novel.specs.Births.{Birth}
 use Rattle.wp_novel.specs.NoveltyTables.{NoveltyTables, is_pair, words_of, IsOpen}
 
 -- the birth as a node of the definition of novelty

@@ -4,7 +4,7 @@ ghost use Rattle.std.specs.List.{AllPairs};
 ghost use Rattle.std.specs.Map.{keys_of};
 ghost use Rattle.wp_task.specs.Novelty.{novelty_of};
 ghost use Rattle.wp_tuples.specs.TuplePlaces.{tuples_of};
-ghost use Rattle.wp_novel.specs.declared.birth.Birth.{Birth};
+ghost use Rattle.wp_novel.specs.Births.{Birth};
 ghost use Rattle.wp_novel.specs.NoveltyTables.{words_of, IsOpen, AreWords};
 ghost use Rattle.wp_novel.specs.StandsFor.{generated_of, last_after, StandsFor};
 ghost use Rattle.wp_novel.specs.Marks.{AreEntered, IsEntered};
@@ -118,8 +118,8 @@ impl Tables {
             result ≡ novelty_of self.old.index.width (map generated_of births) (generated_of birth.now) }
         ensures same { self.new ≡ self.old }
     {
-        match self.words.get(&birth.pair) {
-            Some(words) => least_size(words, &self.index, &birth.state, birth.number),
+        match self.words.get(&birth.pair()) {
+            Some(words) => least_size(words, &self.index, birth.atoms(), birth.number()),
             None => unreachable!(),
         }
     }
@@ -140,7 +140,7 @@ fn last_after(births: &[Birth], before: Option<u64>) -> Option<u64>
     ensures { result ≡ last_after births.now before }
 {
     match births.last() {
-        Some(birth) => Some(birth.number),
+        Some(birth) => Some(birth.number()),
         None => before,
     }
 }
@@ -162,7 +162,8 @@ fn mark_birth(tables: &mut IndexMap<Pair, Words>, index: &TupleIndex, birth: &Bi
     requires size { length birth.now.state ≡ index.now.atoms }
     ensures { IsEntered index.now birth.now tables.old.entries tables.new.entries }
 {
-    if let Some(words) = tables.get_mut(&birth.pair) {
-        mark(words, index, &birth.state, birth.number);
+    match tables.get_mut(&birth.pair()) {
+        Some(words) => mark(words, index, birth.atoms(), birth.number()),
+        None => unreachable!(),
     }
 }

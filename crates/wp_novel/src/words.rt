@@ -1,5 +1,6 @@
 //! The words of one pair.
-ghost use Rattle.std.specs.Prelude.{◌≡◌, ◌-◌, ◌^◌, ◌<◌, min, length, replicate, slice_index, slice_set, IfOk};
+ghost use Rattle.std.specs.Prelude.{◌≡◌, ℕ, ◌+◌, ◌-◌, ◌^◌, ◌<◌, ◌≤◌, true, false, All, fold, length, replicate, slice_index, IfOk};
+ghost use Rattle.wp_novel.specs.Marks.{marked_at};
 
 use std::alloc::{AllocError, Global};
 use std::marker::Model;
@@ -38,9 +39,36 @@ impl Words {
     /// Marks a number at a place: the least one that was marked there stays.
     pub(crate) fn lower(&mut self, place: u64, number: u64)
         requires { place < length self.old }
-        ensures { self.new ≡ slice_set self.old place (min (slice_index self.old place) number) }
+        ensures { self.new ≡ marked_at number self.old place }
     {
         let place = place as usize;
         self.items[place] = self.items[place].min(number);
+    }
+
+    /// Marks a number at the places from `row` on that have the numbers of these atoms.
+    // A plain loop over the list: at width 2 most of the time of a search may go here.
+    pub(crate) fn lower_all(&mut self, row: u64, atoms: &[u32], number: u64)
+        requires row { row < 2 ^ 32 }
+        requires within { All (λ p. row + p < length self.old) atoms.now }
+        ensures { self.new ≡ fold (λ words p. marked_at number words (row + p)) self.old atoms.now }
+    {
+        for p in atoms {
+            self.lower(row + u64::from(*p), number);
+        }
+    }
+
+    /// Whether no lesser number was marked at one of these places.
+    pub(crate) fn has_late(&self, row: u64, atoms: &[u32], number: u64) -> bool
+        requires row { row < 2 ^ 32 }
+        requires within { All (λ p. row + p < length self.now) atoms.now }
+        ensures some { result ≡ true → (k : ℕ) × (k < length atoms.now) × (number ≤ slice_index self.now (row + slice_index atoms.now k)) }
+        ensures none { result ≡ false → All (λ p. slice_index self.now (row + p) < number) atoms.now }
+    {
+        for p in atoms {
+            if self.at(row + u64::from(*p)) >= number {
+                return true;
+            }
+        }
+        false
     }
 }

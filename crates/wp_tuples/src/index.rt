@@ -1,5 +1,5 @@
 //! The index of tuples.
-ghost use Rattle.std.specs.Prelude.{◌≡◌, ◌+◌, ◌-◌, ◌*◌, ◌/◌, ◌^◌, ◌<◌, ◌≤◌, [], ◌∷◌, length};
+ghost use Rattle.std.specs.Prelude.{◌≡◌, ℕ, ◌+◌, ◌-◌, ◌*◌, ◌/◌, ◌^◌, ◌<◌, ◌≤◌, [], ◌∷◌, length};
 ghost use Rattle.wp_tuples.specs.TuplePlaces.{place_of, tuples_of};
 
 use std::marker::Model;
@@ -74,6 +74,17 @@ impl TupleIndex {
         ensures within { result < length (tuples_of self.now) }
     {
         u64::from(self.atoms) + pairs_below(u64::from(q)) + u64::from(p)
+    }
+
+    /// Where the pairs of an atom with the lesser ones begin: the place of the pair with p is this and p.
+    pub fn pair_row(&self, q: u32) -> u64
+        requires width { self.now.width ≡ 2 }
+        requires atom { q < self.now.atoms }
+        ensures places { (p : ℕ) → place_of self.now.atoms (p ∷ q ∷ []) ≡ result + p }
+        ensures within { (p : ℕ) → p < q → result + p < length (tuples_of self.now) }
+        ensures small { result < 2 ^ 32 }
+    {
+        u64::from(self.atoms) + pairs_below(u64::from(q))
     }
 }
 

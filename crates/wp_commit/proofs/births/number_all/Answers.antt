@@ -1,7 +1,7 @@
 use Rattle.std.proofs.Common.{◌≡◌, ◌<◌, ◌^◌, IfSome, length, get_or, sym, ap, ◌∙◌, subst}
 use Rattle.std.specs.List.{All, AllPairs}
 use Rattle.wp_count.specs.declared.brood.Child.{Child}
-use Rattle.wp_novel.specs.declared.birth.Birth.{Birth}
+use Rattle.wp_novel.specs.Births.{Birth}
 use Rattle.wp_novel.specs.NoveltyTables.{IsOpen}
 use Rattle.wp_novel.proofs.TableLemmas.{open_after}
 use Rattle.wp_commit.proofs.BirthLemmas.{births_from, births_open, births_sized, births_below, births_later, births_rising}

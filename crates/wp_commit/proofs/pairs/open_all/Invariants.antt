@@ -2,7 +2,7 @@ use Rattle.std.proofs.Common.{◌≡◌, ◌+◌, ◌*◌, ◌≤◌, ◌++◌, 
 use Rattle.std.specs.Map.{keys_of}
 use Rattle.std.specs.Vec.Iter.{into_iter_items}
 use Rattle.wp_tuples.specs.TuplePlaces.{tuples_of}
-use Rattle.wp_novel.specs.declared.birth.Birth.{Birth}
+use Rattle.wp_novel.specs.Births.{Birth}
 use Rattle.wp_novel.specs.StandsFor.{StandsFor}
 use Rattle.wp_commit.specs.Newborns.{AreUnopened}
 use Rattle.wp_commit.proofs.pairs.open_all.Given as goal

@@ -1,6 +1,6 @@
 use Rattle.std.proofs.Common.{◌≡◌, ◌++◌, ◌∷◌, [], ap, ◌∙◌, subst}
 use Rattle.wp_task.specs.Novelty.{novelty_of}
-use Rattle.wp_novel.specs.declared.birth.Birth.{Birth}
+use Rattle.wp_novel.specs.Births.{Birth}
 use Rattle.wp_novel.specs.StandsFor.{generated_of, StandsFor}
 use Rattle.wp_queue.specs.OpenList.{waiting, IsWith}
 use Rattle.wp_nodes.specs.KeptNodes.{Keeping}
@@ -16,9 +16,10 @@ returns c =
     let mark = c.in_ok-state.mark in
     let track = c.in_ok-state.track in
     let w = c.in_ok-w.w in
-    let root : Birth = record { number = 0; pair = record { g = mark.g; r = mark.r }; state = c.in_ok-copy.field-0 } in
+    let root = c.in_ok-root.root in
     let root_is : root ≡ root_birth state mark =
-    λ j. (let b : Birth = record { number = 0; pair = record { g = mark.g; r = mark.r }; state = c.in_ok-copy.ensures j } in b) in
+    c.in_ok-root.ensures
+    ∙ (λ j. let b : Birth = record { number = 0; pair = record { g = mark.g; r = mark.r }; state = c.in_ok-copy.ensures j } in b) in
     let width = ap (λ index. index.width) c.requires.index in
     let tracked : c.add_track.new.self ≡ record { kept = []; tracks = track ∷ [] } =
     c.in_ok-add_track.ensures.added ∙ ap (λ (n : Keeping). record n { tracks = n.tracks ++ track ∷ [] }) c.new-nodes.ensures in
@@ -30,7 +31,7 @@ returns c =
       index = c.in_ok-w.ensures.index ∙ c.requires.index;
       limit = c.in_ok-w.ensures.limit ∙ c.requires.limit;
       births = subst (λ b. StandsFor tables (b ∷ [])) root_is c.in_ok-w.ensures.stands;
-      pairs = c.in_ok-w.ensures.pairs;
+      pairs = c.in_ok-w.ensures.pairs ∙ ap (λ (b : Birth). b.pair ∷ []) root_is;
       nodes_are = c.in_ok-add.ensures.added ∙ ap (λ (n : Keeping). record n { kept = n.kept ++ root_kept state mark w ∷ [] }) tracked;
       queued = subst (λ waiting_before. IsWith waiting_before (waiting w mark.g 0) c.put.new.self) c.new-queue.ensures c.in_ok-put.ensures.put;
     })

@@ -1,11 +1,8 @@
-use Rattle.std.proofs.Common.{◌≡◌, ◌-◌, ◌+◌, ◌<◌, ℕ, true}
+use Rattle.std.proofs.Common.{ℕ, ◌<◌, [], ◌∷◌}
 use Rattle.std.specs.Prelude.{slice_index}
-use Rattle.wp_task.specs.Set.{has}
-use Rattle.wp_novel.proofs.MarkLemmas.{row}
+use Rattle.wp_tuples.specs.TuplePlaces.{place_of}
 use Rattle.wp_novel.proofs.first.has_pair.Given as goal
 
-abbrev pub invariant-loop-q : goal.invariant-loop-q
-invariant-loop-q l = (q : ℕ) → q < l.from → has l.state q ≡ true → (p : ℕ) → p < q → has l.state p ≡ true → slice_index l.words (row l.index.atoms q + p) < l.number
-
-abbrev pub decreases-loop-q : goal.decreases-loop-q
-decreases-loop-q l = l.size - l.from
+abbrev pub invariant-loop-place : goal.invariant-loop-place
+invariant-loop-place l = (i j : ℕ) → i < j → j < l.place →
+    slice_index l.words (place_of l.index.atoms (slice_index l.atoms i ∷ slice_index l.atoms j ∷ [])) < l.number

@@ -1,24 +1,28 @@
-use Rattle.std.proofs.Common.{ℕ, ◌≤◌, ◌&&◌, ap, ◌∙◌, subst}
-use Rattle.wp_task.specs.Set.{has}
-use Rattle.wp_novel.specs.Marks.{lowered}
-use Rattle.wp_novel.proofs.SizeLemmas.{marked, pairs_stay}
+use Rattle.std.proofs.Common.{ℕ, ◌≡◌, ◌≤◌, ◌∙◌, [], length, take, drop, sym, ap, subst, arith, length-drop}
+use Rattle.std.specs.List.{fold}
+use Rattle.std.proofs.lemmas.List.{nil_from_length}
+use Rattle.wp_novel.specs.Marks.{marked_by}
+use Rattle.wp_novel.specs.TrueTuples.{tuples_after, true_tuples}
+use Rattle.wp_novel.proofs.AtomLemmas.{before_less}
+use Rattle.wp_novel.proofs.MarkLemmas.{is_marked}
 use Rattle.wp_novel.proofs.marks.mark.Goals as goal
 
-pub returns-then-width-eq2 : goal.returns-then-width-eq2
-returns-then-width-eq2 c =
-    let old = c.args.words.now in
-    marked c.args.index.now c.args.state.now c.args.number old c.mark_pairs.new.words
-    (subst (λ (w : ℕ). 1 ≤ w) c.width.ensures.value c.width.ensures.range.0) (subst (λ (w : ℕ). w ≤ 2) c.width.ensures.value c.width.ensures.range.1)
-    (c.mark_pairs.ensures.len ∙ c.mark_atoms.ensures.len)
-    (λ t below. c.mark_pairs.ensures.atoms t below ∙ c.mark_atoms.ensures.words t)
-    (λ two p q less below. c.mark_pairs.ensures.pairs p q less below
-    ∙ ap (lowered (has c.args.state.now p && has c.args.state.now q) c.args.number)
-    (pairs_stay c.args.index.now.atoms c.args.state.now c.args.number old c.mark_atoms.new.words c.requires.state c.mark_atoms.ensures.words p q))
+pub mark_with-requires-clause-before : goal.mark_with-requires-clause-before
+mark_with-requires-clause-before c =
+    before_less c.args.index.now.atoms c.args.atoms.now c.loop-place.place 0 c.requires.atoms c.loop-place-test.true
 
-pub returns-else-width-eq2 : goal.returns-else-width-eq2
-returns-else-width-eq2 c =
-    marked c.args.index.now c.args.state.now c.args.number c.args.words.now c.mark_atoms.new.words
-    (subst (λ (w : ℕ). 1 ≤ w) c.width.ensures.value c.width.ensures.range.0) (subst (λ (w : ℕ). w ≤ 2) c.width.ensures.value c.width.ensures.range.1)
-    c.mark_atoms.ensures.len
-    (λ t below. c.mark_atoms.ensures.words t)
-    (λ two. absurd (c.if-width-eq2.false (c.width.ensures.value ∙ two)))
+pub returns : goal.returns
+returns c = λ state listed size.
+    let index = c.args.index.now in
+    let atoms = c.args.atoms.now in
+    let number = c.args.number in
+    let place = c.loop-place.place in
+    let words = c.loop-place.words in
+    let past : length atoms ≤ place = omega (arith, c.loop-place-test.false) in
+    let none : drop place atoms ≡ [] = nil_from_length (drop place atoms) (omega (arith, length-drop place atoms)) in
+    let all : words ≡ fold (marked_by index.atoms number) c.args.words.now (true_tuples index.width state) =
+    ap (λ l. fold (marked_by index.atoms number) words (tuples_after index.width (take place atoms) l)) (sym none)
+    ∙ (c.loop-place.invariant.left
+    ∙ ap (λ l. fold (marked_by index.atoms number) c.args.words.now (tuples_after index.width [] l)) listed) in
+    is_marked index state (subst (λ (w : ℕ). 1 ≤ w) c.width.ensures.value c.width.ensures.range.0) (subst (λ (w : ℕ). w ≤ 2) c.width.ensures.value c.width.ensures.range.1)
+    size number c.args.words.now words c.requires.words all

@@ -1,6 +1,6 @@
 use Rattle.std.proofs.Common.{◌<◌, List, IfSome, sym, ap, ◌∙◌, subst, refl}
 use Rattle.std.specs.List.{All}
-use Rattle.wp_novel.specs.declared.birth.Birth.{Birth}
+use Rattle.wp_novel.specs.Births.{Birth}
 use Rattle.wp_novel.specs.NoveltyTables.{NoveltyTables, IsOpen}
 use Rattle.wp_novel.specs.StandsFor.{last_after, StandsFor}
 use Rattle.wp_novel.specs.Marks.{AreEntered}
