@@ -9,7 +9,7 @@ use Rattle.wp_edge.specs.Fetch.{Contents}
 use Rattle.wp_lift.specs.Problem.{Lifting, Instance}
 use Rattle.wp_lift.specs.Worlds.{among, is_valid}
 use Rattle.wp_lift.specs.Formed.{IsFormed}
-use Rattle.wp_lift.proofs.FormedLemmas.{made-formed}
+use Rattle.wp_lift.specs.Laws.{LiftingsAreFormed}
 use Rattle.wp_task.specs.Task.{IsTask, is_plan}
 use Rattle.wp_check.specs.PlanFile.{plan_of}
 use Rattle.wp_check.specs.PlanText.{AreComments, line, steps_text}
@@ -123,14 +123,15 @@ found_reply settings lifted grounded ending plan found same all =
     ∙ ap (λ (text : List ℕ). text ++ last) (plan_is lifted plan all)
 
 -- ---- the laws
-is_formed : (asked : Asked) (files : Contents) (settings : Settings) (lifted : Lifting) → IsLifted asked files settings lifted → IsFormed lifted
-is_formed asked files settings lifted of =
-    made-formed of.texts.domain of.texts.problem lifted (lifted_finely of.texts.domain of.texts.problem lifted of.lifts)
+is_formed : LiftingsAreFormed → (asked : Asked) (files : Contents) (settings : Settings) (lifted : Lifting) → IsLifted asked files settings lifted
+    → IsFormed lifted
+is_formed are_formed asked files settings lifted of =
+    are_formed of.texts.domain of.texts.problem lifted (lifted_finely of.texts.domain of.texts.problem lifted of.lifts)
 
-pub found_read_back : FoundIsPlan → PlansAreValid → PlansOfTextsAreReadBack → FoundPlansAreReadBack
-found_read_back found_is_plan plans_are_valid read_back asked files settings lifted ending plan is found =
+pub found_read_back : FoundIsPlan → LiftingsAreFormed → PlansAreValid → PlansOfTextsAreReadBack → FoundPlansAreReadBack
+found_read_back found_is_plan are_formed plans_are_valid read_back asked files settings lifted ending plan is found =
     let of = is.lifts in
-    let formed = is_formed asked files settings lifted of in
+    let formed = is_formed are_formed asked files settings lifted of in
     let task = task_goes lifted is.grounded is.grounds in
     let planned : is_plan is.grounded.task plan ≡ true =
     found_is_plan is.grounded.task settings (all_tuples is.grounded.task settings) plan (ap (λ (end : Ending). end.how) is.ends ∙ found) in
@@ -160,9 +161,9 @@ found_read_back found_is_plan plans_are_valid read_back asked files settings lif
       record { comments = comments; commented = are_comments; shown = text; read = ap plan_of text ∙ back.read; valid = back.valid },
     )
 
-pub unreached_no_plan : UnreachedGoalsHaveNoPlan → GoalsOutOfReachHaveNoPlan
-unreached_no_plan none asked files settings lifted goal atom of refused =
-    none lifted (is_formed asked files settings lifted of) (out_of_reach lifted goal atom refused)
+pub unreached_no_plan : LiftingsAreFormed → UnreachedGoalsHaveNoPlan → GoalsOutOfReachHaveNoPlan
+unreached_no_plan are_formed none asked files settings lifted goal atom of refused =
+    none lifted (is_formed are_formed asked files settings lifted of) (out_of_reach lifted goal atom refused)
 
 -- a valid plan would be one of the task
 pub valid_in_task : PlansAreValid → ValidPlansAreNumbered → (lifted : Lifting) → IsFormed lifted → list_all (among (reached lifted)) lifted.goals ≡ true
@@ -173,9 +174,9 @@ valid_in_task plans_are_valid numbered lifted formed goals none plan valid =
     let there = (plans_are_valid lifted formed goals of.0).1 (of.1, same) in
     both_ways (is_plan (task_of lifted) of.0) (none of.0) there
 
-pub emptied_no_plan : EmptiedHasNoPlan → PlansAreValid → ValidPlansAreNumbered → EmptiedSearchesHaveNoPlan
-emptied_no_plan emptied plans_are_valid numbered asked files settings lifted ending is search how plan =
-    let formed = is_formed asked files settings lifted is.lifts in
+pub emptied_no_plan : EmptiedHasNoPlan → LiftingsAreFormed → PlansAreValid → ValidPlansAreNumbered → EmptiedSearchesHaveNoPlan
+emptied_no_plan emptied are_formed plans_are_valid numbered asked files settings lifted ending is search how plan =
+    let formed = is_formed are_formed asked files settings lifted is.lifts in
     let task = task_goes lifted is.grounded is.grounds in
     let goals = (admitted lifted task.0).all_reached in
     let none : (plan : List ℕ) → is_plan (task_of lifted) plan ≡ false =

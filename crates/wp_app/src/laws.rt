@@ -4,6 +4,7 @@ ghost use Rattle.wp_app.specs.Laws.{AnswersOfNoPlanAreTrue, DoneAnswersAreValidP
 
 use wp_check::plans_of_texts_are_read_back;
 use wp_ground::{plans_are_valid, unreached_goals_have_no_plan, valid_plans_are_numbered};
+use wp_lift::liftings_are_formed;
 use wp_plain::{emptied_has_no_plan, endings_answer, found_is_plan};
 
 /// Where a plan is found, the printed text, its last line with the counts included, is read back as the steps of that plan,
@@ -12,6 +13,7 @@ pub fn found_plans_are_read_back()
     ensures { FoundPlansAreReadBack }
 {
     found_is_plan();
+    liftings_are_formed();
     plans_are_valid();
     plans_of_texts_are_read_back();
 }
@@ -20,6 +22,7 @@ pub fn found_plans_are_read_back()
 pub fn goals_out_of_reach_have_no_plan()
     ensures { GoalsOutOfReachHaveNoPlan }
 {
+    liftings_are_formed();
     unreached_goals_have_no_plan();
 }
 
@@ -28,6 +31,7 @@ pub fn emptied_searches_have_no_plan()
     ensures { EmptiedSearchesHaveNoPlan }
 {
     emptied_has_no_plan();
+    liftings_are_formed();
     plans_are_valid();
     valid_plans_are_numbered();
 }

@@ -26,7 +26,9 @@ mod word;
 
 pub use error::{Part, PddlError, PddlKind};
 pub use laws::{domain_faults_walk, domains_are_named, problem_faults_walk, problems_are_named};
-pub use lists::{ActionTexts, AtomTexts, Conds, Effects, InitItems, Names, PredTexts, TypedList};
+pub use lists::{
+    ActionTexts, AtomTexts, Conds, Effects, InitItems, Kinds, Names, PredTexts, TypedList,
+};
 pub use read::{read_domain, read_problem};
 pub use records::{
     ActionText, AtomText, Cond, Domain, Effect, InitItem, Name, PredText, Problem, Typed,

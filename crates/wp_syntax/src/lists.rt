@@ -1,12 +1,13 @@
 //! Lists of the records: each is seen as the plain list of its items.
 
-ghost use Rattle.std.specs.Prelude.{◌≡◌, ◌++◌, ◌∷◌, [], OnOk};
+ghost use Rattle.std.specs.Prelude.{◌≡◌, ◌++◌, ◌∷◌, [], IfOk, OnOk};
 
 use crate::records::{ActionText, AtomText, Cond, Effect, InitItem, Name, PredText, Typed};
-use std::alloc::AllocError;
+use std::alloc::{AllocError, Global};
 use std::marker::Model;
+use std::rc::Rc;
 
-/// A list of names, as the kinds of a word or the terms of an atom.
+/// A list of names, as the types of a kind or the terms of an atom.
 #[derive(Debug, Drop)]
 pub struct Names {
     items: Vec<Name>,
@@ -39,6 +40,45 @@ impl Names {
         ensures { result.now ≡ self.now }
     {
         self.items.as_slice()
+    }
+}
+
+/// The types of a kind, kept once for all words of its group.
+#[derive(Debug, Drop)]
+pub struct Kinds {
+    names: Rc<Names>,
+}
+
+impl Model for Kinds {
+    ghost use Rattle.std.specs.Prelude.{List};
+    ghost use Rattle.wp_syntax.specs.declared.records.Name.{Name};
+
+    ghost Value = { List Name };
+
+    ghost view = { λ a. a.names.value };
+}
+
+impl Kinds {
+    /// These types, for one word.
+    pub fn of_names(alloc: Global, names: Names) -> Result<Kinds, AllocError>
+        ensures { IfOk result (λ kinds. kinds ≡ names) }
+    {
+        let names = Rc::new(alloc, names)?;
+        Ok(Kinds { names })
+    }
+
+    /// The same types for one more word. More words than can be counted are want of memory.
+    pub fn share(&self) -> Result<Kinds, AllocError>
+        ensures { IfOk result (λ kinds. kinds ≡ self.now) }
+    {
+        let names = self.names.clone()?;
+        Ok(Kinds { names })
+    }
+
+    pub fn as_slice(&self) -> &[Name]
+        ensures { result.now ≡ self.now }
+    {
+        self.names.as_slice()
     }
 }
 

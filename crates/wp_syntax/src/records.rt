@@ -1,7 +1,7 @@
 //! The records of a domain and of a problem, with the place of each name.
 
 use crate::lists::{
-    ActionTexts, AtomTexts, Conds, Effects, InitItems, Names, PredTexts, TypedList,
+    ActionTexts, AtomTexts, Conds, Effects, InitItems, Kinds, Names, PredTexts, TypedList,
 };
 use wp_edge::Text;
 
@@ -16,7 +16,7 @@ pub struct Name {
 #[derive(Debug, Drop)]
 pub struct Typed {
     pub name: Name,
-    pub kinds: Names,
+    pub kinds: Kinds,
 }
 
 /// A predicate with its terms: names of objects, and variables, which begin with `?`.

@@ -1,6 +1,6 @@
 //! Lists of words with kinds.
 
-ghost use Rattle.std.specs.Prelude.{◌≡◌, ◌≤◌, ◌++◌, length, [], IfOk, OnOk};
+ghost use Rattle.std.specs.Prelude.{◌≡◌, ◌≤◌, ◌++◌, ◌∷◌, length, [], IfOk, OnOk};
 ghost use Rattle.wp_lex.specs.Node.{tree_of};
 ghost use Rattle.wp_lex.specs.Trees.{Then, trees_of};
 ghost use Rattle.wp_syntax.specs.Reading.{Adds, Gives, GoesOn, Passes};
@@ -8,7 +8,7 @@ ghost use Rattle.wp_syntax.specs.Typing.{is_named, is_typed, with_kinds, limit_o
 
 use crate::atom::{name, place_of};
 use crate::error::{PddlKind, ReadError, bad, shape};
-use crate::lists::{Names, TypedList};
+use crate::lists::{Kinds, Names, TypedList};
 use crate::records::{Name, Typed};
 use crate::word::{is_dash, is_name, is_variable, is_word};
 use std::alloc::{AllocError, Global};
@@ -132,34 +132,28 @@ fn either(alloc: Global, at: u64, items: &[Item]) -> Result<Names, ReadError>
     kinds(alloc, rest)
 }
 
-fn copied(alloc: Global, names: &[Name]) -> Result<Names, AllocError>
-    ensures { IfOk result (λ copy. copy ≡ names.now) }
+fn only(alloc: Global, name: Name) -> Result<Names, AllocError>
+    ensures { IfOk result (λ names. names ≡ name ∷ []) }
 {
-    let mut copy = Vec::new(alloc);
-    for item in names {
-        copy.push(name(alloc, &item.text, item.at)?)?;
-    }
-    Ok(Names::of_vec(copy))
+    let mut names = Vec::new(alloc);
+    names.push(name)?;
+    Ok(Names::of_vec(names))
 }
 
-// The group that waited has these kinds.
-fn give_kinds(alloc: Global, so_far: &mut TypedSoFar, kinds: &[Name]) -> Result<(), AllocError>
-    ensures { OnOk result (GivesKinds kinds.now so_far.old so_far.new) }
+// The group that waited has these kinds, which are kept once.
+fn give_kinds(alloc: Global, so_far: &mut TypedSoFar, kinds: Names) -> Result<(), AllocError>
+    ensures { OnOk result (GivesKinds kinds so_far.old so_far.new) }
 {
     let group = replace(&mut so_far.group, Vec::new(alloc));
-    with_kinds(alloc, &mut so_far.done, group, kinds)
+    let kinds = Kinds::of_names(alloc, kinds)?;
+    with_kinds(&mut so_far.done, group, &kinds)
 }
 
-fn with_kinds(
-    alloc: Global,
-    done: &mut Vec<Typed>,
-    group: Vec<Name>,
-    kinds: &[Name],
-) -> Result<(), AllocError>
+fn with_kinds(done: &mut Vec<Typed>, group: Vec<Name>, kinds: &Kinds) -> Result<(), AllocError>
     ensures { OnOk result (done.new.items ≡ done.old.items ++ with_kinds kinds.now group.items) }
 {
     for name in group {
-        let kinds = copied(alloc, kinds)?;
+        let kinds = kinds.share()?;
         done.push(Typed { name, kinds })?;
     }
     Ok(())
@@ -181,12 +175,13 @@ fn grouped<'a>(
             if !is_name(text) {
                 return Err(shape(dash));
             }
-            give_kinds(alloc, so_far, &[name(alloc, text, at)?])?;
+            let kind = name(alloc, text, at)?;
+            give_kinds(alloc, so_far, only(alloc, kind)?)?;
             Ok(rest)
         }
         Some((Node::List { at, inner }, rest)) => {
             let kinds = either(alloc, at, inner)?;
-            give_kinds(alloc, so_far, kinds.as_slice())?;
+            give_kinds(alloc, so_far, kinds)?;
             Ok(rest)
         }
     }
@@ -235,7 +230,7 @@ pub fn typed_list(alloc: Global, role: Role, items: &[Item]) -> Result<TypedList
     while let Some((node, after)) = next(rest) {
         rest = typed_part(alloc, &mut so_far, node, after)?;
     }
-    give_kinds(alloc, &mut so_far, &[])?;
+    give_kinds(alloc, &mut so_far, Names::of_vec(Vec::new(alloc)))?;
     let TypedSoFar {
         role: _,
         done,
