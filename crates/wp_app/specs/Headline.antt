@@ -20,6 +20,27 @@ use Rattle.wp_app.specs.Output.{answer_of, part_of, domain_step, texts_step}
 use Rattle.wp_app.specs.Puts.{IsCut}
 use Rattle.wp_app.specs.Statuses.{is_defined}
 
+-- what shelf and sink tell before and after a run: the files, which stay, what the sink holds, and their counts of faults
+pub record Outside : Type 0 where
+  pub contents : Option Contents
+  pub shelf_before : ℕ
+  pub shelf_now : ℕ
+  pub held : Option (List ℕ)
+  pub held_now : Option (List ℕ)
+  pub sink_before : ℕ
+  pub sink_now : ℕ
+
+abbrev pub outside_of : Option Contents → ℕ → ℕ → Option (List ℕ) → Option (List ℕ) → ℕ → ℕ → Outside
+outside_of contents shelf_before shelf_now held held_now sink_before sink_now = record {
+  contents = contents;
+  shelf_before = shelf_before;
+  shelf_now = shelf_now;
+  held = held;
+  held_now = held_now;
+  sink_before = sink_before;
+  sink_now = sink_now;
+}
+
 -- the shelf tells its files, and the words come to one that is not there
 abbrev pub HasNoAnswer : Asked → Option Contents → Type 0
 HasNoAnswer asked contents = (files : Contents) × (contents ≡ Some files) × (answer_of asked files ≡ None)
@@ -35,21 +56,21 @@ IsAnswer asked files held held_now status =
     ⊎ ((status ≡ statuses.Memory) × (held_now ≡ Some held))
 
 -- where shelf and sink tell, and the count of neither rose, the run answers
-abbrev pub Headline : Asked → Option Contents → ℕ → ℕ → Option (List ℕ) → Option (List ℕ) → ℕ → ℕ → Status → Type 0
-Headline asked contents shelf_before shelf_now held held_now before now status =
-    (files : Contents) (old : List ℕ) → contents ≡ Some files → held ≡ Some old
-    → ¬ ShelfFailed asked contents shelf_before shelf_now → ¬ Rose before now
-    → IsAnswer asked files old held_now status
+abbrev pub Headline : Asked → Outside → Status → Type 0
+Headline asked outside status =
+    (files : Contents) (old : List ℕ) → outside.contents ≡ Some files → outside.held ≡ Some old
+    → ¬ ShelfFailed asked outside.contents outside.shelf_before outside.shelf_now → ¬ Rose outside.sink_before outside.sink_now
+    → IsAnswer asked files old outside.held_now status
 
 -- the reply is the answer, where the shelf tells
 abbrev pub IsDue : Asked → Option Contents → Reply → Type 0
 IsDue asked contents reply = (files : Contents) → contents ≡ Some files → answer_of asked files ≡ Some reply
 
 -- whatever failed: the status is that of the answer, and its whole text was taken
-pub record Answered (asked : Asked) (contents : Option Contents) (held held_now : Option (List ℕ)) (status : Status) : Type 0 where
+pub record Answered (asked : Asked) (outside : Outside) (status : Status) : Type 0 where
   pub text : List ℕ
-  pub due : IsDue asked contents (record { text = text; status = status })
-  pub taken : held_now ≡ appended held text
+  pub due : IsDue asked outside.contents (record { text = text; status = status })
+  pub taken : outside.held_now ≡ appended outside.held text
 
 -- the run comes to the file of a part: where the shelf tells, the parts before it are there, within their limits and without
 -- a fault. First of the domain and the problem alone.
@@ -82,10 +103,10 @@ pub record IsUnread (asked : Asked) (contents : Option Contents) (before now : �
   pub fault : ShelfFailed asked contents before now
 
 -- a file was not read, and the line that says so was taken
-pub record ReadFaulted (asked : Asked) (contents : Option Contents) (before now : ℕ) (held held_now : Option (List ℕ)) : Type 0 where
+pub record ReadFaulted (asked : Asked) (outside : Outside) : Type 0 where
   pub part : Part
-  pub unread : IsUnread asked contents before now part
-  pub taken : held_now ≡ appended held (read_fault_text part)
+  pub unread : IsUnread asked outside.contents outside.shelf_before outside.shelf_now part
+  pub taken : outside.held_now ≡ appended outside.held (read_fault_text part)
 
 -- what is to be written: the answer, or the line of a file that was not read
 abbrev pub IsReply : Asked → Option Contents → ℕ → ℕ → Reply → Type 0
@@ -108,8 +129,8 @@ abbrev pub IsUsageOrFault : Status → Type 0
 IsUsageOrFault status = (status ≡ statuses.Usage) ⊎ ((status ≡ statuses.WriteFault) ⊎ (status ≡ statuses.Memory))
 
 -- a put failed, and a front of what was to be written was taken
-pub record WriteFaulted (asked : Asked) (contents : Option Contents) (shelf_before shelf_now : ℕ) (held held_now : Option (List ℕ)) (before now : ℕ) : Type 0 where
-  pub rose : Rose before now
+pub record WriteFaulted (asked : Asked) (outside : Outside) : Type 0 where
+  pub rose : Rose outside.sink_before outside.sink_now
   pub reply : Reply
-  pub is : IsReply asked contents shelf_before shelf_now reply
-  pub cut : IsCut held held_now reply.text
+  pub is : IsReply asked outside.contents outside.shelf_before outside.shelf_now reply
+  pub cut : IsCut outside.held outside.held_now reply.text

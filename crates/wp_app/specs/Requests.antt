@@ -1,5 +1,5 @@
 -- What is asked of a run: its words, and the watchers that are handed in; and what the words make of it.
-use Rattle.std.specs.Prelude.{◌||◌, ℕ, Bool, false, List, filter, Option, None, Some}
+use Rattle.std.specs.Prelude.{◌||◌, ℕ, Bool, false, List, filter, map, Option, None, Some}
 use Rattle.std.specs.List.{list_any}
 use Rattle.wp_syntax.specs.declared.error.Part.{Part}
 use Rattle.wp_syntax.specs.declared.error.Part.TheVariants as parts
@@ -14,6 +14,10 @@ use Rattle.wp_words.specs.Words.{command_of}
 pub record Asked : Type 0 where
   pub words : List (List ℕ)
   pub watchers : List (WatchKind × Option ℕ)
+
+-- the same of boxes that tell their kind and that number
+abbrev pub asked_by : {B : Type 0} → (B → WatchKind) → (B → Option ℕ) → List (List ℕ) → List B → Asked
+asked_by kind until words boxes = record { words = words; watchers = map (λ box. (kind box, until box)) boxes }
 
 -- a command, with the watchers that are kept for it
 pub record Request : Type 0 where

@@ -1,14 +1,14 @@
 //! The top call.
 
 ghost use Rattle.std.specs.Prelude.{◌≡◌, ◌≤◌, ◌∷◌, ◌++◌, ℕ, [], List, Option, IfOk, OnOk, None, All, filter, map, string_bytes, IsTrue, if◌then◌else◌};
-ghost use Rattle.wp_app.specs.Headline.{Headline, Answered, ReadFaulted, WriteFaulted, IsReply, IsReplyTo, IsReached, IsUsageOf, IsUsageOrFault};
+ghost use Rattle.wp_app.specs.Headline.{Headline, outside_of, Answered, ReadFaulted, WriteFaulted, IsReply, IsReplyTo, IsReached, IsUsageOf, IsUsageOrFault};
 ghost use Rattle.wp_app.specs.Output.{run_step};
 ghost use Rattle.wp_watch.specs.declared.watch.WatchKind.{WatchKind};
 ghost use Rattle.wp_watch.specs.Places.{AreAfter, AreUntold};
 ghost use Rattle.wp_plain.specs.Places.{places_in};
 ghost use Rattle.wp_words.specs.Names.{HasNames, IsInRange};
 ghost use Rattle.wp_words.specs.Words.{command_of};
-ghost use Rattle.wp_app.specs.Requests.{Asked, keeps_kind};
+ghost use Rattle.wp_app.specs.Requests.{asked_by, keeps_kind};
 ghost use Rattle.wp_app.specs.Statuses.{is_defined, is_of_files};
 ghost use Rattle.wp_app.specs.Stops.{Follows, IfUnread};
 
@@ -40,16 +40,21 @@ pub fn run_words<R: Threads + Sync, S: Shelf, K: Sink, G: Gate>(
     watchers: Vec<Box<dyn Watch>>,
 ) -> Status
     requires { All (λ watch. told watch ≡ []) watchers.items }
-    ensures headline { Headline (let asked : Asked = record { words = map string_bytes words.now; watchers = map (λ watch. (kind watch, until watch)) watchers.items } in asked) (S.contents shelf.old) (S.faults shelf.old) (S.faults shelf.new)
-        (K.held sink.old) (K.held sink.new) (K.faults sink.old) (K.faults sink.new) result }
+    ensures headline { Headline (asked_by kind until (map string_bytes words.now) watchers.items)
+        (outside_of (S.contents shelf.old) (S.faults shelf.old) (S.faults shelf.new)
+        (K.held sink.old) (K.held sink.new) (K.faults sink.old) (K.faults sink.new)) result }
     ensures defined { IsTrue (is_defined result) →
-        Answered (let asked : Asked = record { words = map string_bytes words.now; watchers = map (λ watch. (kind watch, until watch)) watchers.items } in asked) (S.contents shelf.old) (K.held sink.old) (K.held sink.new) result }
+        Answered (asked_by kind until (map string_bytes words.now) watchers.items)
+        (outside_of (S.contents shelf.old) (S.faults shelf.old) (S.faults shelf.new)
+        (K.held sink.old) (K.held sink.new) (K.faults sink.old) (K.faults sink.new)) result }
     ensures read_fault { result ≡ Status.ReadFault →
-        ReadFaulted (let asked : Asked = record { words = map string_bytes words.now; watchers = map (λ watch. (kind watch, until watch)) watchers.items } in asked) (S.contents shelf.old) (S.faults shelf.old) (S.faults shelf.new)
-        (K.held sink.old) (K.held sink.new) }
+        ReadFaulted (asked_by kind until (map string_bytes words.now) watchers.items)
+        (outside_of (S.contents shelf.old) (S.faults shelf.old) (S.faults shelf.new)
+        (K.held sink.old) (K.held sink.new) (K.faults sink.old) (K.faults sink.new)) }
     ensures write_fault { result ≡ Status.WriteFault →
-        WriteFaulted (let asked : Asked = record { words = map string_bytes words.now; watchers = map (λ watch. (kind watch, until watch)) watchers.items } in asked) (S.contents shelf.old) (S.faults shelf.old) (S.faults shelf.new)
-        (K.held sink.old) (K.held sink.new) (K.faults sink.old) (K.faults sink.new) }
+        WriteFaulted (asked_by kind until (map string_bytes words.now) watchers.items)
+        (outside_of (S.contents shelf.old) (S.faults shelf.old) (S.faults shelf.new)
+        (K.held sink.old) (K.held sink.new) (K.faults sink.old) (K.faults sink.new)) }
     ensures memory { result ≡ Status.Memory → K.held sink.new ≡ K.held sink.old }
     // Whatever shelf and sink are: exactly where the words have no command, or a write fault or want of memory in its place.
     ensures usage { result ≡ Status.Usage → command_of (map string_bytes words.now) ≡ None }
@@ -76,8 +81,9 @@ fn reply_to<R: Threads + Sync, S: Shelf>(
     watchers: Vec<Box<dyn Watch>>,
 ) -> Result<Reply, AllocError>
     requires { All (λ watch. told watch ≡ []) watchers.items }
-    ensures is { IfOk result (IsReply (let asked : Asked = record { words = map string_bytes words.now; watchers = map (λ watch. (kind watch, until watch)) watchers.items } in asked) (S.contents shelf.old) (S.faults shelf.old) (S.faults shelf.new)) }
-    ensures usage { IfOk result (IsUsageOf (let asked : Asked = record { words = map string_bytes words.now; watchers = map (λ watch. (kind watch, until watch)) watchers.items } in asked)) }
+    ensures is { IfOk result (IsReply (asked_by kind until (map string_bytes words.now) watchers.items)
+        (S.contents shelf.old) (S.faults shelf.old) (S.faults shelf.new)) }
+    ensures usage { IfOk result (IsUsageOf (asked_by kind until (map string_bytes words.now) watchers.items)) }
     ensures contents { S.contents shelf.new ≡ S.contents shelf.old }
     ensures later { S.faults shelf.old ≤ S.faults shelf.new }
 {
