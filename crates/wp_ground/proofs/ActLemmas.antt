@@ -29,18 +29,6 @@ use Rattle.wp_ground.proofs.FollowLemmas.{has-map, number_cases, lists-numbers}
 use Rattle.wp_ground.proofs.OrderLemmas.{Rises, in-all}
 use Rattle.wp_ground.proofs.NumberLemmas.{Below, numbers-rise, filter-same}
 
--- ---- what is left gives the whole
-pub taken : {X : Type 0} (test : X → Bool) (old new all chunk behind : List X) → all ≡ chunk ++ behind → new ≡ old ++ filter test chunk
-    → new ++ filter test behind ≡ old ++ filter test all
-taken test old new all chunk behind is next =
-    ap (λ l. l ++ filter test behind) next ∙ append_assoc old (filter test chunk) (filter test behind)
-    ∙ ap (λ l. old ++ l) (sym (filter-append test chunk behind) ∙ ap (filter test) (sym is))
-
-pub needs-more : (args : List ℕ) (cond : SlotCond) (conds : List SlotCond) → needs_in args (cond ∷ conds) ≡ needs_in args (cond ∷ []) ++ needs_in args conds
-needs-more args (Atom atom) conds = refl
-needs-more args (Same a b) conds = refl
-needs-more args (Differ a b) conds = refl
-
 pub acts-more : {X Y : Type 0} (f : X → Y) (xs : List X) (i : ℕ) (x : X) (y : Y) (old new : List Y) → i < length xs → x ≡ get_or xs i x → y ≡ f x
     → old ≡ map f (take i xs) → new ≡ old ++ y ∷ [] → new ≡ map f (take (i + 1) xs)
 acts-more f xs i x y old new within read made is next =

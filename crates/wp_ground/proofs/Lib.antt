@@ -1,8 +1,10 @@
+pub mod WithoutLemmas
+pub mod FormLemmas
+pub mod TableLemmas
+pub mod FlatLemmas
+pub mod BindingLemmas
 pub mod SetLemmas
 pub mod ReachLemmas
-pub mod SweepLemmas
-pub mod PassLemmas
-pub mod WalkLemmas
 mod Rows
 pub mod EnumerationLemmas
 pub mod InstanceLemmas
@@ -12,3 +14,6 @@ pub mod LawLemmas
 pub mod OrderLemmas
 pub mod NumberLemmas
 pub mod ActLemmas
+pub mod StepLemmas
+pub mod JoinLemmas
+pub mod TakingLemmas

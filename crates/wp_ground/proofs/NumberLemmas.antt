@@ -1,24 +1,23 @@
 -- Atoms in the order of their numbers: the enumeration rises, so what is sorted without repeats and has its members is the enumeration.
-use Rattle.std.proofs.Common.{◌≡◌, ◌∙◌, ℕ, zero, suc, ◌+◌, ◌<◌, ◌≤◌, Bool, true, false, cond, eqb, Option, Some, None, Err, List, [], ◌∷◌, ◌++◌, length, map, filter, get_or, replicate, take, refl, sym, ap, subst, inl, inr, ⊎_elim, arith, add-zero, zero-add}
-use Rattle.std.specs.List.{HoldsAt, cons_option, dedup, filter_map, flat_map, position_from, range_with_len}
-use Rattle.std.specs.List.Sorted.{IsPermutation, IsSorted, IsStrictlySortedBy, IsBinarySearchResult, IsNonDecreasingBy}
+use Rattle.std.proofs.Common.{◌≡◌, ◌∙◌, ℕ, zero, suc, ◌+◌, ◌<◌, Bool, true, false, cond, eqb, Option, Some, None, IfSome, IfNone, ◌||◌, List, [], ◌∷◌, ◌++◌, length, map, filter, get_or, replicate, take, refl, sym, ap, subst, inl, inr, ⊎_elim, arith, add-zero, zero-add}
+use Rattle.std.specs.List.{cons_option, dedup, filter_map, flat_map, position_from, range_with_len}
+use Rattle.std.specs.List.Sorted.{IsPermutation, IsSorted, IsStrictlySortedBy}
 use Rattle.std.specs.List.Retain.{IsFiltered, DiffersFromLast}
 use Rattle.std.specs.declared.cmp.Ordering.{Ordering}
-use Rattle.std.specs.declared.cmp.Ordering.TheVariants.{Less, Equal, Greater}
-use Rattle.std.specs.Ordering.{nat_cmp, ordering_then, ordering_index, eq_by_cmp, is_eq}
+use Rattle.std.specs.declared.cmp.Ordering.TheVariants.{Less, Equal}
+use Rattle.std.specs.Ordering.{nat_cmp, ordering_then, eq_by_cmp}
 use Rattle.std.specs.Cmp.{IsTotalOrder, nat_cmp_is, unsigned_ties}
 use Rattle.std.specs.Cmp.Lexicographic.{slice_cmp, nat_list_cmp_total, texts_ties, on_texts_equal}
-use Rattle.std.proofs.lemmas.Cmp.{on_total, alike_right, tied_itself, nat_cmp_total, ranked}
-use Rattle.std.proofs.lemmas.Bool.{cases_Bool, cases_lt, cond-true, cond-false}
-use Rattle.std.proofs.lemmas.List.{take_all, take_more}
+use Rattle.std.proofs.lemmas.Cmp.{on_total, nat_cmp_total, ranked}
+use Rattle.std.proofs.lemmas.Bool.{cases_Bool, cond-true, cond-false, both_ways, false_from_ne_true}
+use Rattle.std.proofs.lemmas.List.{take_more, get_or-replicate}
 use Rattle.std.proofs.lemmas.List.Elements.{filter_map-append}
 use Rattle.std.proofs.lemmas.List.Filters.{dedup_is}
 use Rattle.std.proofs.lemmas.List.FromFn.{get_or-map-range_with_len}
 use Rattle.std.proofs.lemmas.List.Quantifiers.{position-Some}
-use Rattle.std.proofs.lemmas.Map.Keys.{Less-from_sorted}
 use Rattle.std.proofs.lemmas.List.Kept.{IsStrictlySortedBy-dedup, Contains-dedup, Contains-dedup_nat, Contains-from_dedup}
 use Rattle.std.proofs.lemmas.List.Sorted.{Contains-permutation, IsPermutation-sym}
-use Rattle.wp_task.proofs.Members.{In, In-from_Contains, Contains-from_In, In-filter, In-filter_cases, In-map_cases}
+use Rattle.wp_task.proofs.Members.{In, list_any-from, In-from_Contains, Contains-from_In, In-filter, In-filter_cases, In-map_cases}
 use Rattle.wp_lift.specs.declared.atoms.GroundAtom.{GroundAtom}
 use Rattle.wp_lift.specs.Problem.{Lifting, pred_at, tuples_of}
 use Rattle.wp_lift.specs.Worlds.{is_same_atom, among}
@@ -28,22 +27,22 @@ use Rattle.wp_lift.proofs.PlaceLemmas.{from-zero}
 use Rattle.wp_ground.specs.Tasks.{changes, atoms_with, atoms_of, atom_at, numbers_of}
 use Rattle.wp_ground.specs.Numbering.{atom_cmp, number_in, has_flag}
 use Rattle.wp_ground.proofs.SetLemmas.{In-flat_map_cases, among-from, among-in, same_atom-self}
-use Rattle.wp_ground.proofs.EnumerationLemmas.{place_of, In-get}
+use Rattle.wp_ground.proofs.EnumerationLemmas.{In-get}
 use Rattle.wp_ground.proofs.InstanceLemmas.{In-atoms}
 use Rattle.wp_ground.proofs.FollowLemmas.{number_there, number_cases}
 use Rattle.wp_ground.proofs.OrderLemmas.{Rises, rises-filter, rises-map, rises-flat_map, rises-range, rises-same, all-in, in-all}
 
 -- ---- orders
-ListBefore : List ℕ → List ℕ → Type 0
+unfoldable pub ListBefore : List ℕ → List ℕ → Type 0
 ListBefore a b = slice_cmp nat_cmp a b ≡ Less
 
 abbrev pub AtomBefore : GroundAtom → GroundAtom → Type 0
 AtomBefore a b = atom_cmp a b ≡ Less
 
-less : (x y : ℕ) → x < y → nat_cmp x y ≡ Less
+pub less : (x y : ℕ) → x < y → nat_cmp x y ≡ Less
 less x y lt = sym (nat_cmp_is x y Less lt)
 
-equal : (x : ℕ) → nat_cmp x x ≡ Equal
+pub equal : (x : ℕ) → nat_cmp x x ≡ Equal
 equal x = sym (nat_cmp_is x x Equal refl)
 
 -- an atom as the list of its numbers
@@ -106,7 +105,7 @@ unfolding IsStrictlySortedBy
 rises-sorted [] h = tt
 rises-sorted (a ∷ atoms) h = (in-all (AtomBefore a) atoms h.0, rises-sorted atoms h.1)
 
-In-permutation : {X : Type 0} (xs ys : List X) → IsPermutation xs ys → (x : X) → In x xs → In x ys
+pub In-permutation : {X : Type 0} (xs ys : List X) → IsPermutation xs ys → (x : X) → In x xs → In x ys
 In-permutation xs ys moved x there = In-from_Contains x ys (Contains-permutation xs ys x moved (Contains-from_In x xs there))
 
 In-dedup_atoms : (atoms : List GroundAtom) (a : GroundAtom) → In a atoms → In a (dedup is_same_atom atoms)
@@ -164,52 +163,20 @@ number-cases atoms a p h =
     let found = position-Some (is_same_atom a) atoms p _ h in
     (found.0, sym (same-atom a (atom_at atoms p) found.1))
 
--- ---- what a binary search finds
-pub search-found : (atoms : List GroundAtom) (a : GroundAtom) (p : ℕ) → IsStrictlySortedBy atom_cmp atoms → p < length atoms
-    → HoldsAt (λ (b : GroundAtom). atom_cmp b a ≡ Equal) atoms p → number_in atoms a ≡ Some p
-search-found atoms a p sorted within equals =
-    let same = same-atom (atom_at atoms p) a (atoms-ties (atom_at atoms p) a ∙ ap is_eq (equals _)) in
-    ap (number_in atoms) (sym same) ∙ number-at atoms p (sorted-rises atoms sorted) within
-
-index_most : (o : Ordering) → ordering_index o ≤ 2
-index_most Less = omega arith
-index_most Equal = omega arith
-index_most Greater = omega arith
-
-index_rises : (a b c : GroundAtom) → AtomBefore a b → (o : Ordering) → atom_cmp b c ≡ o → ordering_index (atom_cmp a c) ≤ ordering_index o
-index_rises a b c h Less e = let less = ap ordering_index (atoms-total.trans a b c h e) in omega arith
-index_rises a b c h Equal e = let less = ap ordering_index (sym (alike_right atoms-total b c a e) ∙ h) in omega arith
-index_rises a b c h Greater e = index_most (atom_cmp a c)
-
-comparisons_rise : (atoms : List GroundAtom) (a : GroundAtom) → IsStrictlySortedBy atom_cmp atoms → IsNonDecreasingBy (λ (b : GroundAtom). ordering_index (atom_cmp b a)) atoms
-comparisons_rise atoms a sorted i j d le within = ⊎_elim
-    (λ (lt : i < j). index_rises (get_or atoms i d) (get_or atoms j d) a (Less-from_sorted atom_cmp atoms i j d sorted lt within) (atom_cmp (get_or atoms j d) a) refl)
-    (λ (ge : j ≤ i). let same : i ≡ j = omega arith in
-    let equal = ap (λ (k : ℕ). ordering_index (atom_cmp (get_or atoms k d) a)) same in
-    let found : ordering_index (atom_cmp (get_or atoms i d) a) ≤ ordering_index (atom_cmp (get_or atoms j d) a) = omega arith in found)
-    (cases_lt i j)
-
+-- ---- what a look-up finds
 from_none : (test : GroundAtom → Bool) (i : ℕ) (atoms : List GroundAtom) → ((a : GroundAtom) → In a atoms → test a ≡ false) → position_from test i atoms ≡ None
 from_none test i [] h = refl
 from_none test i (a ∷ atoms) h =
     cond-false (test a) (Some i) (position_from test (i + 1) atoms) (h a (inl refl)) ∙ from_none test (i + 1) atoms (λ b there. h b (inr there))
 
-pub search-absent : (atoms : List GroundAtom) (a : GroundAtom) (p : ℕ) → IsStrictlySortedBy atom_cmp atoms
-    → IsBinarySearchResult (λ (b : GroundAtom). atom_cmp b a) atoms (Err p) → number_in atoms a ≡ None
-search-absent atoms a p sorted parted =
-    let parts = parted (comparisons_rise atoms a sorted) in
-    let other : (b : GroundAtom) → In b atoms → is_same_atom a b ≡ false = λ b there. ⊎_elim
-    (λ (same : is_same_atom a b ≡ true).
-    let place = place_of b atoms b there in
-    let found : get_or atoms place.0 b ≡ a = place.2 ∙ sym (same-atom a b same) in
-    let equals : atom_cmp (get_or atoms place.0 b) a ≡ Equal = ap (λ (c : GroundAtom). atom_cmp c a) found ∙ tied_itself atoms-total a in
-    ⊎_elim
-    (λ (before : place.0 < p). let less = parts.0 place.0 b (omega arith) before in let no' : is_same_atom a b ≡ false = cc in no')
-    (λ (after : p ≤ place.0). let greater = parts.1 place.0 b after place.1 in let no' : is_same_atom a b ≡ false = cc in no')
-    (cases_lt place.0 p))
-    (λ (other : is_same_atom a b ≡ false). other)
-    (cases_Bool (is_same_atom a b)) in
-    sym (from-zero (is_same_atom a) atoms) ∙ from_none (is_same_atom a) 0 atoms other
+pub number-is : (atoms : List GroundAtom) (atom : GroundAtom) (found : Option ℕ) → IsStrictlySortedBy atom_cmp atoms
+    → IfSome found (λ p. p < length atoms) → IfSome found (λ p. atom_at atoms p ≡ atom) → IfNone found (among atoms atom ≡ false)
+    → found ≡ number_in atoms atom
+number-is atoms atom None sorted within is none =
+    sym (sym (from-zero (is_same_atom atom) atoms) ∙ from_none (is_same_atom atom) 0 atoms (λ b there.
+    false_from_ne_true (is_same_atom atom b) (λ same. both_ways (among atoms atom) none (list_any-from (is_same_atom atom) atoms b there same))))
+number-is atoms atom (Some p) sorted within is none =
+    sym (ap (number_in atoms) (sym is) ∙ number-at atoms p (sorted-rises atoms sorted) within)
 
 -- ---- the numbers of wanted atoms
 In-filter_map : {X Y : Type 0} (h : X → Option Y) (xs : List X) (x : X) (y : Y) → In x xs → h x ≡ Some y → In y (filter_map h xs)
@@ -297,10 +264,13 @@ numbers-more atoms wanted i a found more within read is next =
     ∙ sym (filter_map-append (number_in atoms) (take i wanted) (a ∷ []))
     ∙ ap (filter_map (number_in atoms)) (ap (λ (b : GroundAtom). take i wanted ++ b ∷ []) read ∙ sym (take_more wanted i a within))
 
-pub in-order-numbers : (atoms wanted : List GroundAtom) (i : ℕ) (found sorted unique : List ℕ) → IsStrictlySortedBy atom_cmp atoms → length wanted ≤ i
-    → found ≡ filter_map (number_in atoms) (take i wanted) → IsPermutation found sorted → IsSorted nat_cmp sorted
+pub in-order-numbers : (atoms wanted : List GroundAtom) (found sorted unique : List ℕ) → IsStrictlySortedBy atom_cmp atoms
+    → found ≡ filter_map (number_in atoms) wanted → IsPermutation found sorted → IsSorted nat_cmp sorted
     → IsFiltered (DiffersFromLast eqb) [] sorted unique → unique ≡ numbers_of atoms (among wanted)
-in-order-numbers atoms wanted i found sorted unique strictly all is moved rising once =
+in-order-numbers atoms wanted found sorted unique strictly is moved rising once =
     dedup_is eqb sorted unique once
-    ∙ numbers-are atoms wanted sorted strictly
-    (subst (λ (l : List ℕ). IsPermutation l sorted) (is ∙ ap (filter_map (number_in atoms)) (take_all i wanted all)) moved) rising
+    ∙ numbers-are atoms wanted sorted strictly (subst (λ (l : List ℕ). IsPermutation l sorted) is moved) rising
+
+-- ---- the predicates that change
+pub flags-none : (count p : ℕ) → p < count → has_flag (replicate count false) p ≡ false
+flags-none count p within = get_or-replicate {A = Bool} count p false false within

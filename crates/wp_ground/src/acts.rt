@@ -1,102 +1,28 @@
 //! The actions of the task: the instances whose conditions are reached, over the numbers of the task's atoms.
 
-ghost use Rattle.std.specs.Prelude.{◌≡◌, ◌<◌, ◌++◌, ◌∷◌, [], not, length, map, filter, All, IfOk, OnOk, if◌then◌else◌};
-ghost use Rattle.wp_lift.specs.Problem.{Instance, schema_at, tuples_for};
-ghost use Rattle.wp_lift.specs.Worlds.{among, all_hold, adds_of, dels_of};
+ghost use Rattle.std.specs.Prelude.{◌≡◌, ◌≢◌, ◌≤◌, ◌<◌, ◌++◌, ◌∷◌, [], ℕ, true, false, not, length, map, filter, slice_index, All, IfOk, OnOk, if◌then◌else◌};
+ghost use Rattle.std.specs.List.{cons_option, filter_map};
+ghost use Rattle.std.specs.List.Sorted.{IsStrictlyIncreasing};
+ghost use Rattle.wp_lift.specs.Problem.{Instance, schema_at};
+ghost use Rattle.wp_lift.specs.Worlds.{among, grounded};
 ghost use Rattle.wp_task.specs.Set.{lists};
-ghost use Rattle.wp_ground.specs.Tasks.{steps_of, needs_in, needs_of, numbers_of, act_of};
+ghost use Rattle.wp_ground.specs.Tasks.{needs_in, numbers_of, act_of};
 ghost use Rattle.wp_ground.specs.Sweeps.{with_schema};
+ghost use Rattle.wp_ground.specs.Numbering.{number_in};
 ghost use Rattle.wp_ground.specs.Acts.{changed_atoms};
 
-use crate::numbering::TaskAtoms;
-use crate::reaching::{all_hold, choices};
-use crate::tuples::Tuples;
+use crate::joins::ground_into;
+use crate::numbering::{TaskAtoms, push_some};
+use crate::steps::Steps;
 use std::alloc::{AllocError, Global};
-use std::marker::Model;
-use wp_lift::{Args, GroundAtom, Lifted, SlotCond, SlotEffect, World, grounded};
+use wp_lift::{Lifted, SlotAtom, SlotCond, SlotEffect};
 use wp_task::{Act, Acts, Atoms};
 
-/// An action schema with an object for each parameter.
+/// Lists that are filled anew for each instance: the objects of an atom that is looked up, and the numbers of atoms.
 #[derive(Drop)]
-pub struct SchemaInstance {
-    schema: u32,
-    args: Args,
-}
-
-impl Model for SchemaInstance {
-    ghost use Rattle.wp_lift.specs.Problem.{Instance};
-
-    ghost Value = { Instance };
-
-    ghost view = { λ s. record { schema = s.schema; args = s.args } };
-}
-
-impl SchemaInstance {
-    pub fn schema(&self) -> u32
-        ensures { result ≡ self.now.schema }
-    {
-        self.schema
-    }
-
-    pub fn args(&self) -> &[u32]
-        ensures { result.now ≡ self.now.args }
-    {
-        self.args.as_slice()
-    }
-}
-
-/// The instances whose conditions hold in the world, by schema and then by argument tuple.
-pub fn steps_in(
-    alloc: Global,
-    lifted: &Lifted,
-    world: &World,
-) -> Result<Vec<SchemaInstance>, AllocError>
-    ensures { IfOk result (λ steps. steps.items ≡ steps_of lifted.now (among world.now)) }
-{
-    let mut steps = Vec::new(alloc);
-    for schema in 0..lifted.schemas().as_slice().len() as u32 {
-        push_steps(alloc, lifted, schema, world, &mut steps)?;
-    }
-    Ok(steps)
-}
-
-/// The same for the instances of one schema, behind those that are there.
-fn push_steps(
-    alloc: Global,
-    lifted: &Lifted,
-    schema: u32,
-    world: &World,
-    steps: &mut Vec<SchemaInstance>,
-) -> Result<(), AllocError>
-    requires { schema < length lifted.now.schemas }
-    ensures { OnOk result (steps.new.items ≡ steps.old.items
-        ++ filter (λ (step : Instance). all_hold lifted.now step (among world.now)) (map (with_schema schema) (tuples_for lifted.now schema))) }
-{
-    let mut tuples = Tuples::new(alloc, choices(alloc, lifted, schema)?)?;
-    'tuples: while !tuples.is_done() {
-        push_if_holds(alloc, lifted, schema, tuples.first(), world, steps)?;
-        tuples.advance();
-    }
-    Ok(())
-}
-
-fn push_if_holds(
-    alloc: Global,
-    lifted: &Lifted,
-    schema: u32,
-    args: &[u32],
-    world: &World,
-    steps: &mut Vec<SchemaInstance>,
-) -> Result<(), AllocError>
-    requires { schema < length lifted.now.schemas }
-    ensures { OnOk result (steps.new.items ≡ steps.old.items
-        ++ (if all_hold lifted.now (with_schema schema args.now) (among world.now) then with_schema schema args.now ∷ [] else [])) }
-{
-    if all_hold(alloc, lifted, schema, args, world)? {
-        let args = Args::of_vec(Vec::from_slice(alloc, args)?);
-        steps.push(SchemaInstance { schema, args })?;
-    }
-    Ok(())
+struct Scratch {
+    objects: Vec<u32>,
+    numbers: Vec<u32>,
 }
 
 /// The actions that the instances are, in their order.
@@ -104,14 +30,26 @@ pub fn acts_of(
     alloc: Global,
     lifted: &Lifted,
     atoms: &TaskAtoms,
-    steps: &[SchemaInstance],
+    steps: &Steps,
 ) -> Result<Acts, AllocError>
     requires { All (λ (step : Instance). step.schema < length lifted.now.schemas) steps.now }
     ensures { IfOk result (λ acts. acts ≡ map (act_of lifted.now atoms.now) steps.now) }
 {
+    let mut scratch = Scratch {
+        objects: Vec::new(alloc),
+        numbers: Vec::new(alloc),
+    };
     let mut acts = Vec::with_capacity(alloc, steps.len())?;
-    for step in steps {
-        acts.push(act_of(alloc, lifted, atoms, step)?)?;
+    for place in 0..steps.len() {
+        let act = act_of(
+            alloc,
+            lifted,
+            atoms,
+            steps.schema(place),
+            steps.args(place),
+            &mut scratch,
+        )?;
+        acts.push(act)?;
     }
     Ok(Acts::of_vec(acts))
 }
@@ -120,122 +58,161 @@ fn act_of(
     alloc: Global,
     lifted: &Lifted,
     atoms: &TaskAtoms,
-    step: &SchemaInstance,
+    schema: u32,
+    args: &[u32],
+    scratch: &mut Scratch,
 ) -> Result<Act, AllocError>
-    requires { step.now.schema < length lifted.now.schemas }
-    ensures { IfOk result (λ act. act ≡ act_of lifted.now atoms.now step.now) }
+    requires { schema < length lifted.now.schemas }
+    ensures { IfOk result (λ act. act ≡ act_of lifted.now atoms.now (with_schema schema args.now)) }
 {
-    let pre = needed(alloc, lifted, atoms, step)?;
-    let add = changed(alloc, lifted, atoms, step, true)?;
-    let deleted = changed(alloc, lifted, atoms, step, false)?;
+    let conds = lifted.schema_at(schema).conds.as_slice();
+    put_needs(atoms, args, conds, scratch)?;
+    let pre = copied(alloc, scratch.numbers.as_slice())?;
+    let effects = lifted.schema_at(schema).effects.as_slice();
+    put_changes(atoms, args, effects, true, scratch)?;
+    let add = copied(alloc, scratch.numbers.as_slice())?;
+    put_changes(atoms, args, effects, false, scratch)?;
     // What an action deletes and adds stays true: it is no delete effect.
-    let del = without(alloc, &deleted, &add)?;
+    let del = without(alloc, scratch.numbers.as_slice(), add.as_slice())?;
     Ok(Act { pre, add, del })
 }
 
-/// The numbers of the atoms that the instance needs.
-fn needed(
-    alloc: Global,
-    lifted: &Lifted,
-    atoms: &TaskAtoms,
-    step: &SchemaInstance,
-) -> Result<Atoms, AllocError>
-    requires { step.now.schema < length lifted.now.schemas }
-    ensures { IfOk result (λ numbers. numbers ≡ numbers_of atoms.now (among (needs_of lifted.now step.now))) }
+fn copied(alloc: Global, numbers: &[u32]) -> Result<Atoms, AllocError>
+    ensures { IfOk result (λ atoms. atoms ≡ numbers.now) }
 {
-    let conds = lifted.schema_at(step.schema()).conds.as_slice();
-    let needs = needs_in(alloc, step.args(), conds)?;
-    let numbers = atoms.numbers(alloc, &needs)?;
-    Ok(numbers)
+    let numbers = Vec::from_slice(alloc, numbers)?;
+    Ok(Atoms::of_vec(numbers))
 }
 
-fn needs_in(alloc: Global, args: &[u32], conds: &[SlotCond]) -> Result<Vec<GroundAtom>, AllocError>
-    ensures { IfOk result (λ needs. needs.items ≡ needs_in args.now conds.now) }
+/// Finds the numbers of the atoms that the conditions name.
+fn put_needs(
+    atoms: &TaskAtoms,
+    args: &[u32],
+    conds: &[SlotCond],
+    scratch: &mut Scratch,
+) -> Result<(), AllocError>
+    ensures { OnOk result (scratch.new.numbers.items ≡ numbers_of atoms.now (among (needs_in args.now conds.now))) }
 {
-    let mut needs = Vec::new(alloc);
+    scratch.numbers.clear();
     for cond in conds {
-        push_need(alloc, args, cond, &mut needs)?;
+        push_need(atoms, args, cond, scratch)?;
     }
-    Ok(needs)
+    atoms.put_in_order(&mut scratch.numbers);
+    Ok(())
 }
 
 fn push_need(
-    alloc: Global,
+    atoms: &TaskAtoms,
     args: &[u32],
     cond: &SlotCond,
-    needs: &mut Vec<GroundAtom>,
+    scratch: &mut Scratch,
 ) -> Result<(), AllocError>
-    ensures { OnOk result (needs.new.items ≡ needs.old.items ++ needs_in args.now (cond.now ∷ [])) }
+    ensures { OnOk result (scratch.new.numbers.items
+        ≡ scratch.old.numbers.items ++ filter_map (number_in atoms.now) (needs_in args.now (cond.now ∷ []))) }
 {
     if let SlotCond::Atom { atom } = cond {
-        needs.push(grounded(alloc, args, atom)?)?;
+        push_number(atoms, args, atom, scratch)?;
     }
     Ok(())
 }
 
-/// The numbers of the atoms that the instance adds, or of those that it deletes.
-fn changed(
-    alloc: Global,
-    lifted: &Lifted,
+/// Finds the numbers of the atoms that the effects add, or of those that they delete.
+fn put_changes(
     atoms: &TaskAtoms,
-    step: &SchemaInstance,
-    add: bool,
-) -> Result<Atoms, AllocError>
-    requires { step.now.schema < length lifted.now.schemas }
-    ensures { IfOk result (λ numbers. numbers
-        ≡ numbers_of atoms.now (among (if add then adds_of lifted.now step.now else dels_of lifted.now step.now))) }
-{
-    let effects = lifted.schema_at(step.schema()).effects.as_slice();
-    let changes = changed_atoms(alloc, step.args(), effects, add)?;
-    let numbers = atoms.numbers(alloc, &changes)?;
-    Ok(numbers)
-}
-
-fn changed_atoms(
-    alloc: Global,
     args: &[u32],
     effects: &[SlotEffect],
     add: bool,
-) -> Result<Vec<GroundAtom>, AllocError>
-    ensures { IfOk result (λ atoms. atoms.items ≡ changed_atoms add args.now effects.now) }
+    scratch: &mut Scratch,
+) -> Result<(), AllocError>
+    ensures { OnOk result (scratch.new.numbers.items ≡ numbers_of atoms.now (among (changed_atoms add args.now effects.now))) }
 {
-    let mut atoms = Vec::new(alloc);
+    scratch.numbers.clear();
     for effect in effects {
-        push_change(alloc, args, effect, add, &mut atoms)?;
+        push_change(atoms, args, effect, add, scratch)?;
     }
-    Ok(atoms)
+    atoms.put_in_order(&mut scratch.numbers);
+    Ok(())
 }
 
 fn push_change(
-    alloc: Global,
+    atoms: &TaskAtoms,
     args: &[u32],
     effect: &SlotEffect,
     add: bool,
-    atoms: &mut Vec<GroundAtom>,
+    scratch: &mut Scratch,
 ) -> Result<(), AllocError>
-    ensures { OnOk result (atoms.new.items ≡ atoms.old.items ++ changed_atoms add args.now (effect.now ∷ [])) }
+    ensures { OnOk result (scratch.new.numbers.items
+        ≡ scratch.old.numbers.items ++ filter_map (number_in atoms.now) (changed_atoms add args.now (effect.now ∷ []))) }
 {
     if effect.add == add {
-        atoms.push(grounded(alloc, args, &effect.atom)?)?;
+        push_number(atoms, args, &effect.atom, scratch)?;
     }
     Ok(())
 }
 
-/// The numbers that are not among the others.
-fn without(alloc: Global, numbers: &Atoms, others: &Atoms) -> Result<Atoms, AllocError>
+/// Finds the number of an atom, if it has one.
+fn push_number(
+    atoms: &TaskAtoms,
+    args: &[u32],
+    atom: &SlotAtom,
+    scratch: &mut Scratch,
+) -> Result<(), AllocError>
+    ensures { OnOk result (scratch.new.numbers.items
+        ≡ scratch.old.numbers.items ++ cons_option (number_in atoms.now (grounded args.now atom.now)) []) }
+{
+    ground_into(&mut scratch.objects, args, atom.slots.as_slice())?;
+    let number = atoms.number_of(atom.pred, scratch.objects.as_slice());
+    push_some(&mut scratch.numbers, number)?;
+    Ok(())
+}
+
+/// The numbers that are not among the others, in one walk along both lists.
+fn without(alloc: Global, numbers: &[u32], others: &[u32]) -> Result<Atoms, AllocError>
+    requires numbers { IsStrictlyIncreasing numbers.now }
+    requires others { IsStrictlyIncreasing others.now }
     ensures { IfOk result (λ rest. rest ≡ filter (λ p. not (lists others.now p)) numbers.now) }
 {
-    let numbers = numbers.as_slice();
-    let rest = numbers
-        .iter()
-        .copied()
-        .filter(|number| !is_listed(others, *number))
-        .collect(alloc)?;
+    let mut rest = Vec::with_capacity(alloc, numbers.len())?;
+    let mut passed = 0;
+    for number in numbers {
+        passed = pass(others, passed, *number);
+        push_unless(&mut rest, *number, is_at(others, passed, *number))?;
+    }
     Ok(Atoms::of_vec(rest))
 }
 
-fn is_listed(numbers: &Atoms, number: u32) -> bool
-    ensures { result ≡ lists numbers.now number }
+/// The first place from here on that has no lesser number.
+fn pass(numbers: &[u32], from: usize, number: u32) -> usize
+    ensures from { from ≤ result }
+    ensures less { (k : ℕ) → from ≤ k → k < result → slice_index numbers.now k < number }
+    ensures stop { result < length numbers.now → number ≤ slice_index numbers.now result }
 {
-    numbers.as_slice().iter().any(|other| *other == number)
+    let mut place = from;
+    'places: while is_less(numbers, place, number) {
+        place += 1;
+    }
+    place
+}
+
+fn is_less(numbers: &[u32], place: usize, number: u32) -> bool
+    ensures yes { result ≡ true → (place < length numbers.now) × (slice_index numbers.now place < number) }
+    ensures no { result ≡ false → place < length numbers.now → number ≤ slice_index numbers.now place }
+{
+    place < numbers.len() && numbers[place] < number
+}
+
+fn is_at(numbers: &[u32], place: usize, number: u32) -> bool
+    ensures yes { result ≡ true → (place < length numbers.now) × (slice_index numbers.now place ≡ number) }
+    ensures no { result ≡ false → place < length numbers.now → slice_index numbers.now place ≢ number }
+{
+    place < numbers.len() && numbers[place] == number
+}
+
+fn push_unless(numbers: &mut Vec<u32>, number: u32, unwanted: bool) -> Result<(), AllocError>
+    ensures { OnOk result (numbers.new.items ≡ numbers.old.items ++ (if unwanted then [] else number ∷ [])) }
+{
+    if !unwanted {
+        numbers.push(number)?;
+    }
+    Ok(())
 }

@@ -1,21 +1,23 @@
 //! The task of a lifted problem.
 
-ghost use Rattle.std.specs.Prelude.{◌≡◌, ◌≤◌, ◌<◌, true, length, map, All, IfOk};
+ghost use Rattle.std.specs.Prelude.{◌≡◌, ◌≤◌, ◌<◌, true, not, length, map, position, All, IfOk, IfSome};
 ghost use Rattle.wp_lift.specs.Problem.{Instance};
-ghost use Rattle.wp_lift.specs.Worlds.{among};
-ghost use Rattle.wp_ground.specs.Tasks.{atoms_of, steps_of, task_with, atom_at};
-ghost use Rattle.wp_ground.specs.Texts.{atom_text};
+ghost use Rattle.wp_lift.specs.Worlds.{among, unmet_goal};
+ghost use Rattle.wp_ground.specs.Tasks.{steps_of, task_with, atom_at};
+ghost use Rattle.wp_ground.specs.Texts.{atom_text, step_text};
 ghost use Rattle.wp_ground.specs.Sweeps.{IsReached};
-ghost use Rattle.wp_ground.specs.Refusals.{Gives, GivesBy, grounded_by};
+ghost use Rattle.wp_ground.specs.Refusals.{Gives, GivesBy};
 
-use crate::acts::{SchemaInstance, acts_of, steps_in};
+use crate::acts::acts_of;
 use crate::numbering::TaskAtoms;
-use crate::reaching::reach;
+use crate::steps::Steps;
+use crate::table::AtomTable;
+use crate::taking::reach;
 use crate::texts::{atom_text, atom_texts, step_texts};
 use std::alloc::{AllocError, Global};
 use thiserror::Error;
 use wp_edge::{Text, Texts};
-use wp_lift::{Lifted, World};
+use wp_lift::{GroundAtom, Lifted};
 use wp_task::{State, Task};
 
 const MOST_ACTS: u64 = 1048576;
@@ -66,24 +68,53 @@ impl From<AllocError> for GroundError {
 pub fn ground(alloc: Global, lifted: &Lifted) -> Result<Grounded, GroundError>
     ensures { Gives result lifted.now }
 {
-    match reach(alloc, lifted, MOST_ACTS)? {
-        Some(world) => ground_over(alloc, lifted, &world),
-        None => Err(GroundError::TooManyActs),
+    let Some(found) = reach(alloc, lifted, MOST_ACTS)? else {
+        return Err(GroundError::TooManyActs);
+    };
+    ground_over(alloc, lifted, &found.atoms, &found.steps)
+}
+
+/// The same over the reached atoms and the instances whose conditions are reached.
+fn ground_over(
+    alloc: Global,
+    lifted: &Lifted,
+    reached: &AtomTable,
+    steps: &Steps,
+) -> Result<Grounded, GroundError>
+    requires reached { IsReached lifted.now 1048576 reached.now }
+    requires steps { steps.now ≡ steps_of lifted.now (among reached.now) }
+    ensures { GivesBy result lifted.now (among reached.now) }
+{
+    let Some(atoms) = TaskAtoms::of_reached(alloc, lifted, reached)? else {
+        return Err(GroundError::TooManyAtoms);
+    };
+    match unmet_goal(lifted, reached) {
+        Some(goal) => Err(out_of_reach(alloc, lifted, goal)?),
+        None => Ok(named_task(alloc, lifted, &atoms, steps)?),
     }
 }
 
-/// The same over the reached atoms.
-fn ground_over(alloc: Global, lifted: &Lifted, world: &World) -> Result<Grounded, GroundError>
-    requires { IsReached lifted.now 1048576 world.now }
-    ensures { GivesBy result lifted.now (among world.now) }
+/// The place of the first goal atom, in text order, that is not reached. None exactly where all are reached.
+fn unmet_goal(lifted: &Lifted, reached: &AtomTable) -> Option<u32>
+    ensures value { result ≡ unmet_goal lifted.now (among reached.now) }
+    ensures in_range { IfSome result (λ place. place < length lifted.now.goals) }
 {
-    let Some(atoms) = TaskAtoms::of_world(alloc, lifted, world)? else {
-        return Err(GroundError::TooManyAtoms);
-    };
-    match lifted.unmet_goal(world) {
-        Some(goal) => Err(out_of_reach(alloc, lifted, goal)?),
-        None => Ok(named_task(alloc, lifted, world, &atoms)?),
+    match first_missing(reached, lifted.goals().as_slice()) {
+        Some(place) => Some(place as u32),
+        None => None,
     }
+}
+
+fn first_missing(reached: &AtomTable, atoms: &[GroundAtom]) -> Option<usize>
+    ensures { result ≡ position (λ atom. not (among reached.now atom)) atoms.now }
+{
+    atoms.iter().position(|atom| !is_reached(reached, atom))
+}
+
+fn is_reached(reached: &AtomTable, atom: &GroundAtom) -> bool
+    ensures { result ≡ among reached.now atom.now }
+{
+    reached.find(atom.pred, atom.args.as_slice()).is_some()
 }
 
 fn out_of_reach(alloc: Global, lifted: &Lifted, goal: u32) -> Result<GroundError, AllocError>
@@ -97,17 +128,20 @@ fn out_of_reach(alloc: Global, lifted: &Lifted, goal: u32) -> Result<GroundError
 fn named_task(
     alloc: Global,
     lifted: &Lifted,
-    world: &World,
     atoms: &TaskAtoms,
+    steps: &Steps,
 ) -> Result<Grounded, AllocError>
-    requires atoms { atoms.now ≡ atoms_of lifted.now (among world.now) }
-    requires few { length (steps_of lifted.now (among world.now)) ≤ 1048576 }
-    ensures { IfOk result (λ grounded. grounded ≡ grounded_by lifted.now (among world.now)) }
+    requires few { length steps.now ≤ 1048576 }
+    requires there { All (λ (step : Instance). step.schema < length lifted.now.schemas) steps.now }
+    ensures { IfOk result (λ grounded. grounded ≡ record {
+      task = task_with lifted.now atoms.now steps.now;
+      atom_names = map (atom_text lifted.now) atoms.now;
+      act_names = map (step_text lifted.now) steps.now;
+    }) }
 {
-    let steps = steps_in(alloc, lifted, world)?;
-    let task = task_of(alloc, lifted, atoms, &steps)?;
-    let atom_names = atom_texts(alloc, lifted, atoms.as_slice())?;
-    let act_names = step_texts(alloc, lifted, &steps)?;
+    let task = task_of(alloc, lifted, atoms, steps)?;
+    let atom_names = atom_texts(alloc, lifted, atoms)?;
+    let act_names = step_texts(alloc, lifted, steps)?;
     Ok(Grounded {
         task,
         atom_names,
@@ -119,13 +153,13 @@ fn task_of(
     alloc: Global,
     lifted: &Lifted,
     atoms: &TaskAtoms,
-    steps: &[SchemaInstance],
+    steps: &Steps,
 ) -> Result<Task, AllocError>
     requires few { length steps.now ≤ 1048576 }
     requires there { All (λ (step : Instance). step.schema < length lifted.now.schemas) steps.now }
     ensures { IfOk result (λ task. task ≡ task_with lifted.now atoms.now steps.now) }
 {
-    let count = atoms.as_slice().len() as u32;
+    let count = atoms.len() as u32;
     let init = opening_state(alloc, lifted, atoms)?;
     let goals = atoms.numbers(alloc, lifted.goals().as_slice())?;
     let acts = acts_of(alloc, lifted, atoms, steps)?;
@@ -137,7 +171,7 @@ fn task_of(
 fn opening_state(alloc: Global, lifted: &Lifted, atoms: &TaskAtoms) -> Result<State, AllocError>
     ensures { IfOk result (λ state. state ≡ map (among lifted.now.opening) atoms.now) }
 {
-    let count = atoms.as_slice().len() as u32;
+    let count = atoms.len() as u32;
     let numbers = atoms.numbers(alloc, lifted.opening().as_slice())?;
     let state = State::of(alloc, &numbers, count)?;
     Ok(state)

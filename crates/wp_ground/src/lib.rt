@@ -6,12 +6,21 @@
 #![tactic(auto)]
 
 mod acts;
+mod bindings;
+mod choices;
+mod finding;
+mod flat;
+mod forms;
 mod grounding;
+mod joins;
 mod laws;
 mod numbering;
-mod reaching;
+mod steps;
+mod stopping;
+mod table;
+mod taken;
+mod taking;
 mod texts;
-mod tuples;
 
 pub use grounding::{GroundError, Grounded, ground};
 pub use laws::{

@@ -2,10 +2,11 @@
 
 ghost use Rattle.std.specs.Prelude.{◌≡◌, ◌++◌, ◌∷◌, [], List, ℕ, map, IfOk, OnOk};
 ghost use Rattle.std.specs.List.{flat_map};
-ghost use Rattle.wp_lift.specs.Problem.{Instance, schema_at, pred_at};
+ghost use Rattle.wp_lift.specs.Problem.{schema_at, pred_at};
 ghost use Rattle.wp_ground.specs.Texts.{form_text, object_text, atom_text, step_text};
 
-use crate::acts::SchemaInstance;
+use crate::numbering::TaskAtoms;
+use crate::steps::Steps;
 use std::alloc::{AllocError, Global};
 use wp_edge::{Text, Texts};
 use wp_lift::{GroundAtom, Lifted};
@@ -22,39 +23,26 @@ pub fn atom_text(alloc: Global, lifted: &Lifted, atom: &GroundAtom) -> Result<Te
     )
 }
 
-/// The texts of atoms, in their order.
-pub fn atom_texts(alloc: Global, lifted: &Lifted, atoms: &[GroundAtom]) -> Result<Texts, AllocError>
+/// The texts of the task's atoms, by number.
+pub fn atom_texts(alloc: Global, lifted: &Lifted, atoms: &TaskAtoms) -> Result<Texts, AllocError>
     ensures { IfOk result (λ texts. texts ≡ map (atom_text lifted.now) atoms.now) }
 {
     let mut texts = Vec::with_capacity(alloc, atoms.len())?;
-    for atom in atoms {
-        texts.push(atom_text(alloc, lifted, atom)?)?;
+    for number in 0..atoms.len() {
+        let name = pred_name(lifted, atoms.pred(number));
+        texts.push(form_text(alloc, lifted, name, atoms.args(number))?)?;
     }
     Ok(Texts::of_vec(texts))
 }
 
-fn step_text(alloc: Global, lifted: &Lifted, step: &SchemaInstance) -> Result<Text, AllocError>
-    ensures { IfOk result (λ text. text ≡ step_text lifted.now step.now) }
-{
-    form_text(
-        alloc,
-        lifted,
-        schema_name(lifted, step.schema()),
-        step.args(),
-    )
-}
-
 /// The texts of steps, in their order.
-pub fn step_texts(
-    alloc: Global,
-    lifted: &Lifted,
-    steps: &[SchemaInstance],
-) -> Result<Texts, AllocError>
+pub fn step_texts(alloc: Global, lifted: &Lifted, steps: &Steps) -> Result<Texts, AllocError>
     ensures { IfOk result (λ texts. texts ≡ map (step_text lifted.now) steps.now) }
 {
     let mut texts = Vec::with_capacity(alloc, steps.len())?;
-    for step in steps {
-        texts.push(step_text(alloc, lifted, step)?)?;
+    for place in 0..steps.len() {
+        let name = schema_name(lifted, steps.schema(place));
+        texts.push(form_text(alloc, lifted, name, steps.args(place))?)?;
     }
     Ok(Texts::of_vec(texts))
 }
@@ -67,12 +55,22 @@ fn form_text(
 ) -> Result<Text, AllocError>
     ensures { IfOk result (λ text. text ≡ form_text name.now (map (object_text lifted.now) objects.now)) }
 {
-    let mut out = Vec::new(alloc);
+    let mut out = Vec::with_capacity(alloc, form_length(lifted, name, objects))?;
     out.push(b'(')?;
     out.extend_from_slice(name)?;
     put_objects(&mut out, lifted, objects)?;
     out.push(b')')?;
     Ok(Text::of_vec(out))
+}
+
+// How many bytes the text has: room for it is made once.
+fn form_length(lifted: &Lifted, name: &[u8], objects: &[u32]) -> usize {
+    let mut length = name.len().saturating_add(2);
+    for object in objects {
+        let more = object_name(lifted, *object).len();
+        length = length.saturating_add(more).saturating_add(1);
+    }
+    length
 }
 
 // Each object after one space.

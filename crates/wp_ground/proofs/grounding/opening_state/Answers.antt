@@ -10,12 +10,12 @@ use Rattle.wp_ground.proofs.grounding.opening_state.Goals as goal
 pub of-requires : goal.of-requires
 of-requires c =
     let atoms = c.args.atoms.now in
-    let is = c.in_ok-numbers.ensures ∙ ap (λ (wanted : List GroundAtom). numbers_of atoms (among wanted)) (c.as_slice-2.ensures ∙ c.opening.ensures) in
-    subst (λ (n : ℕ). All (λ (p : ℕ). p < n) c.in_ok-numbers.numbers) (ap length (sym c.as_slice.ensures.value))
+    let is = c.in_ok-numbers.ensures ∙ ap (λ (wanted : List GroundAtom). numbers_of atoms (among wanted)) (c.as_slice.ensures ∙ c.opening.ensures) in
+    subst (λ (n : ℕ). All (λ (p : ℕ). p < n) c.in_ok-numbers.numbers) (sym c.len-count.ensures.value)
     (subst (All (λ (p : ℕ). p < length atoms)) (sym is) (numbers-fit atoms (among c.args.lifted.now.opening)).below)
 
 pub returns : goal.returns
 returns c =
     let atoms = c.args.atoms.now in
-    let is = c.in_ok-numbers.ensures ∙ ap (λ (wanted : List GroundAtom). numbers_of atoms (among wanted)) (c.as_slice-2.ensures ∙ c.opening.ensures) in
-    c.in_ok-state.ensures ∙ (λ i. set_of (is i) (length (c.as_slice.ensures.value i))) ∙ set-of-numbers atoms (among c.args.lifted.now.opening)
+    let is = c.in_ok-numbers.ensures ∙ ap (λ (wanted : List GroundAtom). numbers_of atoms (among wanted)) (c.as_slice.ensures ∙ c.opening.ensures) in
+    c.in_ok-state.ensures ∙ (λ i. set_of (is i) (c.len-count.ensures.value i)) ∙ set-of-numbers atoms (among c.args.lifted.now.opening)

@@ -1,7 +1,0 @@
-use Rattle.std.proofs.Common.{◌≡◌, filter, take}
-use Rattle.wp_lift.specs.declared.atoms.GroundAtom.{GroundAtom}
-use Rattle.wp_ground.specs.Numbering.{has_flag}
-use Rattle.wp_ground.proofs.numbering.changing_atoms.Given as goal
-
-abbrev pub invariant-loop-atom : goal.invariant-loop-atom
-invariant-loop-atom l = l.atoms.items ≡ filter (λ (a : GroundAtom). has_flag l.changing.items a.pred) (take l.atom-index l.atom-items)

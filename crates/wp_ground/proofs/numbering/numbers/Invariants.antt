@@ -1,7 +1,0 @@
-use Rattle.std.proofs.Common.{◌≡◌, take}
-use Rattle.std.specs.List.{filter_map}
-use Rattle.wp_ground.specs.Numbering.{number_in}
-use Rattle.wp_ground.proofs.numbering.numbers.Given as goal
-
-abbrev pub invariant-loop-atom : goal.invariant-loop-atom
-invariant-loop-atom l = l.numbers.items ≡ filter_map (number_in l.atoms) (take l.atom-index l.wanted)
