@@ -6,6 +6,7 @@ pub mod StepLemmas
 mod Rows
 mod SearchRows
 mod NumberedRows
+mod AnswerRows
 pub mod ReadLemmas
 pub mod GroundLemmas
 pub mod PlanLemmas
