@@ -299,13 +299,13 @@ emptied_of search (Words pairs) e = cc
 
 emptied_none : EmptiedHasNoPlan → PlansAreValid → ValidPlansAreNumbered → (files : Contents) (command : Command) (settings : Settings) (ending : Ending)
     → EndsSo files command settings ending → settings.search ≡ F5 → ending.how ≡ Emptied → HaveNoPlan files command
-emptied_none emptied plans_are_valid numbered files command settings ending so search how =
+emptied_none emptied plans_are_valid numbered files command settings ending so f5 how =
     let formed = formed_of files command so.lifted so.lifts in
     let task = task_goes so.lifted so.grounded so.grounds in
     let goals = (admitted so.lifted task.0).all_reached in
     let none : (plan : List ℕ) → is_plan (task_of so.lifted) plan ≡ false =
     λ plan. subst (λ (one : Grounded). is_plan one.task plan ≡ false) (sym task.1)
-    (emptied so.grounded.task settings search (ap (λ (end : Ending). end.how) so.ends ∙ how) plan) in
+    (emptied so.grounded.task settings (all_tuples so.grounded.task settings) f5 (ap (λ (end : Ending). end.how) so.ends ∙ how) plan) in
     (so.lifted, so.lifts, λ plan. not_valid (is_valid so.lifted plan) (valid_in_task plans_are_valid numbered so.lifted formed goals none plan))
 
 searching : (command : Command) → is_of command statuses.NoPlan ≡ true → (settings : Settings) × (settings_of command ≡ Some settings)
