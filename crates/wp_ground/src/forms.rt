@@ -108,7 +108,7 @@ pub fn in_order(alloc: Global, atoms: &FlatAtoms) -> Result<FlatAtoms, AllocErro
     let mut forms = forms_of(alloc, atoms)?;
     forms.sort_unstable();
     forms.dedup();
-    let sorted = flat_of(alloc, forms.as_slice())?;
+    let sorted = flat_of(alloc, forms.as_slice(), atoms)?;
     Ok(sorted)
 }
 
@@ -122,10 +122,11 @@ fn forms_of<'a>(alloc: Global, atoms: &'a FlatAtoms) -> Result<Vec<Form<'a>>, Al
     Ok(forms)
 }
 
-fn flat_of(alloc: Global, forms: &[Form<'_>]) -> Result<FlatAtoms, AllocError>
+/// These atoms, with room for as many as the others are.
+fn flat_of(alloc: Global, forms: &[Form<'_>], others: &FlatAtoms) -> Result<FlatAtoms, AllocError>
     ensures { IfOk result (λ atoms. atoms ≡ forms.now) }
 {
-    let mut atoms = FlatAtoms::new(alloc);
+    let mut atoms = FlatAtoms::with_room_of(alloc, others)?;
     for form in forms {
         atoms.push(form.pred(), form.args())?;
     }

@@ -131,7 +131,7 @@ pub fn push_some(numbers: &mut Vec<u32>, number: Option<u32>) -> Result<(), Allo
 fn table_of(alloc: Global, forms: &[Form<'_>]) -> Result<AtomTable, AllocError>
     ensures { IfOk result (λ atoms. atoms ≡ forms.now) }
 {
-    let mut atoms = AtomTable::new(alloc);
+    let mut atoms = AtomTable::with_room(alloc, forms.len())?;
     for form in forms {
         atoms.add(form.pred(), form.args())?;
     }
