@@ -1,18 +1,17 @@
 -- Sets of atoms and rising lists of atoms.
 use Rattle.std.proofs.Common.{◌≡◌, ◌<◌, ◌≤◌, ◌+◌, ◌&&◌, ◌||◌, ◌∷◌, [], ℕ, Bool, true, false, List, length, map, replicate, get_or, eqb, refl, sym, ap, ◌∙◌, ⊎_elim, arith}
-use Rattle.std.specs.List.{All, IsDistinct, filter, list_any, range_with_len}
+use Rattle.std.specs.List.{IsDistinct, filter, list_any, range_with_len}
 use Rattle.std.specs.List.Sorted.{IsStrictlyIncreasing}
-use Rattle.std.proofs.Math.Bool.{and_comm, and-false}
-use Rattle.std.proofs.lemmas.Bool.{cases_Bool, cases_lt, both_ways, or_cases, eqb-true, eq-eqb, ne_eqb}
+use Rattle.std.proofs.Math.Bool.{and-false}
+use Rattle.std.proofs.lemmas.Bool.{cases_Bool, cases_lt, both_ways, eqb-true, eq-eqb, ne_eqb}
 use Rattle.std.proofs.lemmas.Cmp.{nat_eq_equiv}
 use Rattle.std.proofs.lemmas.List.{get_or_past}
-use Rattle.std.proofs.lemmas.List.Elements.{filter_passes}
 use Rattle.std.proofs.lemmas.List.FromFn.{get_or-range_with_len, length-range_with_len, length-map-range_with_len, get_or-map-range_with_len}
-use Rattle.std.proofs.lemmas.List.Kept.{AllPairs-from_increasing, IsStrictlyIncreasing-filter}
+use Rattle.std.proofs.lemmas.List.Kept.{AllPairs-from_increasing}
 use Rattle.std.proofs.lemmas.Map.Keys.{IsDistinct-from_apart}
 use Rattle.std.proofs.lemmas.Map.Made.{length-from_same_keys}
 use Rattle.std.proofs.lemmas.Map.Views.{any-filter_same}
-use Rattle.wp_task.specs.Set.{has, lists, atoms_in, set_of}
+use Rattle.wp_task.specs.Set.{has, lists, atoms_in}
 use Rattle.wp_task.proofs.Members.{In-at, list_any-from}
 use Rattle.wp_task.proofs.SetLemmas.{has-replicate}
 use Rattle.wp_relax.proofs.PlanLemmas.{atoms_in-rises}
@@ -91,35 +90,3 @@ has-with_achieved got track state same q =
     has-map_range (λ p. has got p || (lists track p && has state p)) (length got) q
     (λ (past : length got ≤ q).
     (λ j. get_or_past got q false past j || (lists track q && get_or_past state q false (omega arith) j)) ∙ and-false (lists track q))
-
--- the atoms of the track that are in either state are those achieved so far and those of the track in the other
-swapped : (g s l : Bool) → (g ≡ true → l ≡ true) → ((g || s) && l) ≡ (g || (l && s))
-swapped true s l tracked = tracked refl
-swapped false s l tracked = and_comm s l
-
-pub lists-achieved : (got : List Bool) (track : List ℕ) (state : List Bool) → ((p : ℕ) → has got p ≡ true → lists track p ≡ true) →
-    (q : ℕ) → lists (filter (λ p. has got p || has state p) track) q ≡ (has got q || (lists track q && has state q))
-lists-achieved got track state tracked q =
-    lists-filter (λ p. has got p || has state p) track q ∙ swapped (has got q) (has state q) (lists track q) (tracked q)
-
-pub set_of-achieved : (got : List Bool) (track : List ℕ) (state : List Bool) → ((p : ℕ) → has got p ≡ true → lists track p ≡ true) →
-    set_of (filter (λ p. has got p || has state p) track) (length got) ≡ with_achieved got track state
-set_of-achieved got track state tracked = λ j. map (λ q. lists-achieved got track state tracked q j) (range_with_len 0 (length got))
-
-pub length-achieved : (got : List Bool) (track : List ℕ) (state : List Bool) → length state ≡ length got → IsStrictlyIncreasing track →
-    ((p : ℕ) → has got p ≡ true → lists track p ≡ true) →
-    length (atoms_in (with_achieved got track state)) ≡ length (filter (λ p. has got p || has state p) track)
-length-achieved got track state same rising tracked =
-    length-atoms_in (with_achieved got track state) (filter (λ p. has got p || has state p) track)
-    (IsStrictlyIncreasing-filter (λ p. has got p || has state p) track rising)
-    (λ q. has-with_achieved got track state same q ∙ sym (lists-achieved got track state tracked q))
-
-pub achieved_below : (got : List Bool) (track : List ℕ) (state : List Bool) (n : ℕ) → length got ≡ n → length state ≡ n →
-    All (λ p. p < n) (filter (λ p. has got p || has state p) track)
-achieved_below got track state n first second = λ k d within.
-    let passing = filter (λ p. has got p || has state p) track in
-    ⊎_elim
-    (λ (before : has got (get_or passing k d) ≡ true). omega (arith, has_below got (get_or passing k d) before))
-    (λ (now : has state (get_or passing k d) ≡ true). omega (arith, has_below state (get_or passing k d) now))
-    (or_cases (has got (get_or passing k d)) (has state (get_or passing k d))
-    (filter_passes (λ p. has got p || has state p) track k d within))

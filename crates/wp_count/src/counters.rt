@@ -1,6 +1,6 @@
 //! Counters of the root and of the children of a node.
-ghost use Rattle.std.specs.Prelude.{◌≡◌, ◌∷◌, [], ◌++◌, ◌||◌, ◌<◌, ◌≤◌, ℕ, true, false, map, length, filter, replicate, IsTrue, IfOk, OnOk, All, None, if◌then◌else◌};
-ghost use Rattle.wp_task.specs.Set.{has, lists, atoms_in};
+ghost use Rattle.std.specs.Prelude.{◌≡◌, [], ◌<◌, ◌≤◌, false, map, length, replicate, IsTrue, IfOk, All, None};
+ghost use Rattle.wp_task.specs.Set.{atoms_in};
 ghost use Rattle.wp_task.specs.Task.{act_at, goal_counter, result_of};
 ghost use Rattle.wp_relax.specs.RelaxedPlan.{relaxed_atoms_of};
 ghost use Rattle.wp_relax.specs.Workspace.{room_for};
@@ -157,35 +157,19 @@ fn later_child(
     track: &Track,
 ) -> Result<Child, AllocError>
     requires size { length state ≡ length mark.now.got }
-    requires tracked { (p : ℕ) → has mark.now.got p ≡ true → lists track.now p ≡ true }
+    requires count { mark.now.r ≡ length (atoms_in mark.now.got) }
     ensures { IfOk result (λ child. child ≡ record { act = a; state = state; g = g; r = length (atoms_in (with_achieved mark.now.got track.now state)); got = with_achieved mark.now.got track.now state; fresh = None }) }
 {
-    let achieved = achieved_on(alloc, track.atoms(), &mark.got, &state)?;
-    let got = State::of(alloc, &achieved, state.size())?;
+    let mut got = mark.got.copy(alloc)?;
+    let r = got.insert_common(track.atoms(), &state, mark.r);
     Ok(Child {
         act: a,
         g,
-        r: achieved.as_slice().len() as u32,
+        r,
         got,
         fresh: None,
         state,
     })
-}
-
-/// The atoms of the track that were achieved so far or are in the state.
-fn achieved_on(
-    alloc: Global,
-    track: &Atoms,
-    got: &State,
-    state: &State,
-) -> Result<Atoms, AllocError>
-    ensures { IfOk result (λ atoms. atoms ≡ filter (λ p. has got.now p || has state.now p) track.now) }
-{
-    let mut achieved = Vec::new(alloc);
-    for p in track.as_slice() {
-        push_if(&mut achieved, *p, got.has(*p) || state.has(*p))?;
-    }
-    Ok(Atoms::of_vec(achieved))
 }
 
 fn no_atoms(alloc: Global, size: u32) -> Result<State, AllocError>
@@ -193,13 +177,4 @@ fn no_atoms(alloc: Global, size: u32) -> Result<State, AllocError>
 {
     let state = State::of(alloc, &Atoms::of_vec(Vec::new(alloc)), size)?;
     Ok(state)
-}
-
-fn push_if(numbers: &mut Vec<u32>, number: u32, wished: bool) -> Result<(), AllocError>
-    ensures { OnOk result (numbers.new.items ≡ numbers.old.items ++ (if wished then number ∷ [] else [])) }
-{
-    if wished {
-        numbers.push(number)?;
-    }
-    Ok(())
 }

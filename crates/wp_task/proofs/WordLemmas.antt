@@ -29,7 +29,7 @@ bit_worth bit worth small = ⊎_elim
     ap (λ b. cond b worth 0) no_one ∙ (let e : 0 ≡ 0 * worth = omega arith in e ∙ ap (λ b. b * worth) (sym zero_bit)))
     (cases_Bool (bit == 1))
 
-sum_by-range_more : (g : ℕ → ℕ) (n : ℕ) → sum_by g (range_with_len 0 (n + 1)) ≡ sum_by g (range_with_len 0 n) + g n
+pub sum_by-range_more : (g : ℕ → ℕ) (n : ℕ) → sum_by g (range_with_len 0 (n + 1)) ≡ sum_by g (range_with_len 0 n) + g n
 sum_by-range_more g n = simp map-id at (sum_by-map-range_with_len_more g (λ (k : ℕ). k) 0 n n (omega arith))
 
 -- the bits of a number, by their worth, make it
@@ -46,7 +46,7 @@ bits_sum n (suc w) =
     ∙ ((let swap : n % 2 ^ w + bit_at n w * 2 ^ w ≡ bit_at n w * 2 ^ w + n % 2 ^ w = omega arith in swap)
     ∙ (sym split ∙ ap (λ k. n % 2 ^ k) one_more))))
 
-sums_agree : (f g : ℕ → ℕ) (n : ℕ) → ((i : ℕ) → i < n → f i ≡ g i) → sum_by f (range_with_len 0 n) ≡ sum_by g (range_with_len 0 n)
+pub sums_agree : (f g : ℕ → ℕ) (n : ℕ) → ((i : ℕ) → i < n → f i ≡ g i) → sum_by f (range_with_len 0 n) ≡ sum_by g (range_with_len 0 n)
 sums_agree f g zero same = refl
 sums_agree f g (suc n) same =
     let one : n + 1 ≡ suc n = omega arith in

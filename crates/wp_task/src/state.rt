@@ -1,6 +1,6 @@
 //! States: sets of atoms.
-ghost use Rattle.std.specs.Prelude.{◌≡◌, ◌==◌, ◌&&◌, ◌||◌, not, ℕ, ◌<◌, ◌≤◌, true, false, length, replicate, IfOk, IfSome, IfNone, All};
-ghost use Rattle.wp_task.specs.Set.{has, lists, set_of, IsNext};
+ghost use Rattle.std.specs.Prelude.{◌≡◌, ◌==◌, ◌&&◌, ◌||◌, not, ℕ, ◌+◌, ◌^◌, ◌<◌, ◌≤◌, true, false, length, replicate, IfOk, IfSome, IfNone, All};
+ghost use Rattle.wp_task.specs.Set.{has, lists, atoms_in, set_of, IsNext};
 
 use crate::atoms::Atoms;
 use crate::bits;
@@ -85,6 +85,37 @@ impl State {
         ensures set { (q : ℕ) → has self.new q ≡ (has self.old q && not (p == q)) }
     {
         bits::clear_bit(&mut self.words, p);
+    }
+
+    /// Puts in those of the listed atoms that the other set has. From how many atoms the set had, answers how many it
+    /// has then.
+    pub fn insert_common(&mut self, atoms: &Atoms, other: &State, had: u32) -> u32
+        requires size { length other.now ≡ length self.old }
+        requires count { had ≡ length (atoms_in self.old) }
+        ensures size { length self.new ≡ length self.old }
+        ensures set { (q : ℕ) → has self.new q ≡ (has self.old q || (lists atoms.now q && has other.now q)) }
+        ensures count { result ≡ length (atoms_in self.new) }
+    {
+        let mut count = had;
+        for p in atoms.as_slice() {
+            count += self.insert_if(*p, other.has(*p));
+        }
+        count
+    }
+
+    /// Puts an atom in where that is wished; answers 1 where it is new, else 0.
+    fn insert_if(&mut self, p: u32, wished: bool) -> u32
+        requires { wished ≡ true → p < length self.old }
+        ensures size { length self.new ≡ length self.old }
+        ensures set { (q : ℕ) → has self.new q ≡ (has self.old q || ((p == q) && wished)) }
+        ensures count { length (atoms_in self.new) ≡ length (atoms_in self.old) + result }
+        ensures few { length (atoms_in self.new) < 2 ^ 32 }
+    {
+        if bits::is_set(self.words.as_slice(), p) || !wished {
+            return 0;
+        }
+        self.insert(p);
+        1
     }
 
     pub(crate) fn insert_all(&mut self, atoms: &Atoms)
