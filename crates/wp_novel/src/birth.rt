@@ -87,7 +87,9 @@ fn atoms_of(alloc: Global, state: &State) -> Result<Vec<u32>, AllocError>
     ensures { IfOk result (λ atoms. atoms.items ≡ atoms_in state.now) }
 {
     let size = state.size();
-    let mut atoms = Vec::new(alloc);
+    // Room for the atoms of most states at once: one that has more of them grows the list.
+    let room = size.min(128) as usize;
+    let mut atoms = Vec::with_capacity(alloc, room)?;
     let mut from = 0;
     while let Some(p) = next_below(state, from, size) {
         atoms.push(p)?;
