@@ -1,5 +1,5 @@
 -- The actions of the task are the instances that hold, over numbers; and the task that they make fits together.
-use Rattle.std.proofs.Common.{◌≡◌, ◌∙◌, ℕ, ◌+◌, ◌<◌, ◌≤◌, ◌&&◌, ◌==◌, not, Bool, true, false, cond, List, [], ◌∷◌, ◌++◌, length, map, filter, get_or, take, refl, sym, ap, subst, arith, append_assoc}
+use Rattle.std.proofs.Common.{◌≡◌, ◌∙◌, ℕ, ◌+◌, ◌<◌, ◌≤◌, ◌&&◌, ◌==◌, not, Bool, true, false, cond, List, [], ◌∷◌, ◌++◌, length, map, filter, get_or, take, refl, sym, ap, subst, arith}
 use Rattle.std.specs.Bool.{beq}
 use Rattle.std.specs.List.{All, range_with_len}
 use Rattle.std.specs.List.Sorted.{IsStrictlySortedBy}
@@ -8,7 +8,7 @@ use Rattle.std.specs.Ordering.{nat_cmp}
 use Rattle.std.specs.Cmp.{nat_cmp_is}
 use Rattle.std.proofs.lemmas.Bool.{eqb-true}
 use Rattle.std.proofs.lemmas.List.{map_more, length-map}
-use Rattle.std.proofs.lemmas.List.Elements.{filter-append, All-map}
+use Rattle.std.proofs.lemmas.List.Elements.{All-map}
 use Rattle.std.proofs.lemmas.List.FromFn.{fill_by_all}
 use Rattle.std.proofs.lemmas.Map.Keys.{IsStrictlyIncreasing-from_sorted}
 use Rattle.wp_task.specs.declared.acts.Act.{Act}
@@ -16,12 +16,10 @@ use Rattle.wp_task.specs.Set.{lists, set_of, AreAtoms}
 use Rattle.wp_task.specs.Task.{IsAct, IsTask}
 use Rattle.wp_task.proofs.Members.{In, In-filter_cases, list_any-at}
 use Rattle.wp_lift.specs.declared.atoms.GroundAtom.{GroundAtom}
-use Rattle.wp_lift.specs.declared.schemas.SlotCond.{SlotCond}
-use Rattle.wp_lift.specs.declared.schemas.SlotCond.TheVariants.{Atom, Same, Differ}
 use Rattle.wp_lift.specs.declared.schemas.SlotEffect.{SlotEffect}
 use Rattle.wp_lift.specs.Problem.{Lifting, Instance, schema_at, instances}
 use Rattle.wp_lift.specs.Worlds.{among, grounded, all_hold, adds_of, dels_of}
-use Rattle.wp_ground.specs.Tasks.{steps_of, atom_at, numbers_of, needs_in, needs_of, act_of, task_with}
+use Rattle.wp_ground.specs.Tasks.{steps_of, atom_at, numbers_of, needs_of, act_of, task_with}
 use Rattle.wp_ground.specs.Acts.{changed_atoms}
 use Rattle.wp_ground.proofs.EnumerationLemmas.{All-from_members, In-range_cases}
 use Rattle.wp_ground.proofs.InstanceLemmas.{In-instances_cases, one_of}

@@ -1,5 +1,5 @@
 -- Atoms in the order of their numbers: the enumeration rises, so what is sorted without repeats and has its members is the enumeration.
-use Rattle.std.proofs.Common.{◌≡◌, ◌∙◌, ℕ, zero, suc, ◌+◌, ◌<◌, Bool, true, false, cond, eqb, Option, Some, None, IfSome, IfNone, ◌||◌, List, [], ◌∷◌, ◌++◌, length, map, filter, get_or, replicate, take, refl, sym, ap, subst, inl, inr, ⊎_elim, arith, add-zero, zero-add}
+use Rattle.std.proofs.Common.{◌≡◌, ◌∙◌, ℕ, zero, suc, ◌+◌, ◌<◌, Bool, true, false, cond, eqb, Option, Some, None, IfSome, IfNone, List, [], ◌∷◌, ◌++◌, length, map, filter, get_or, replicate, take, refl, sym, ap, subst, inl, inr, ⊎_elim, arith, add-zero, zero-add}
 use Rattle.std.specs.List.{cons_option, dedup, filter_map, flat_map, position_from, range_with_len}
 use Rattle.std.specs.List.Sorted.{IsPermutation, IsSorted, IsStrictlySortedBy}
 use Rattle.std.specs.List.Retain.{IsFiltered, DiffersFromLast}
