@@ -30,20 +30,32 @@ IsSpent costs settled = (q : ℕ) → q < length costs → has settled q ≡ fal
 abbrev pub Waiting : Type 0
 Waiting = Reverse (ℕ × ℕ)
 
+-- an atom costs nothing
+pub record IsFree (costs : List ℕ) (p : ℕ) : Type 0 where
+  pub within : p < length costs
+  pub nothing : slice_index costs p ≡ 0
+
 -- an atom may wait with an older cost than the one that it has
 pub record IsKnown (costs : List ℕ) (w : Waiting) : Type 0 where
   pub within : w.0.1 < length costs
   pub lower : slice_index costs w.0.1 ≤ w.0.0
   pub small : w.0.0 < infinite
 
--- each atom that is not settled and has a finite cost waits with that cost, and the heap is in order, the least cost first
-pub record IsFrontier (costs : List ℕ) (settled : List Bool) (waiting : List Waiting) : Type 0 where
+-- each atom that is not settled and costs nothing is listed as free; each that has a finite cost above 0 waits with that
+-- cost; and the heap is in order, the least cost first
+pub record IsFrontier (costs : List ℕ) (settled : List Bool) (free : List ℕ) (waiting : List Waiting) : Type 0 where
   pub size : length settled ≡ length costs
   pub most : All (λ cost. cost ≤ infinite) costs
+  pub free_known : All (IsFree costs) free
+  pub free_each : (p : ℕ) → p < length costs → has settled p ≡ false → slice_index costs p ≡ 0 → Contains free p
   pub known : All (IsKnown costs) waiting
-  pub each : (p : ℕ) → p < length costs → has settled p ≡ false → slice_index costs p < infinite →
+  pub each : (p : ℕ) → p < length costs → has settled p ≡ false → 0 < slice_index costs p → slice_index costs p < infinite →
       Contains waiting (record { 0 = (slice_index costs p, p) })
   pub ordered : IsHeap (λ v w. ordering_then (nat_cmp w.0.0 v.0.0) (nat_cmp w.0.1 v.0.1)) waiting
+
+-- no atom that is not settled costs nothing
+abbrev pub ArePaid : List ℕ → List Bool → Type 0
+ArePaid costs settled = (q : ℕ) → q < length costs → has settled q ≡ false → 0 < slice_index costs q
 
 -- an atom's cost, and the action of least number that offered it
 pub record Offered : Type 0 where

@@ -1,10 +1,10 @@
 use Rattle.std.proofs.Common.{◌≡◌, length, heap_items, heap_len}
 use Rattle.wp_relax.specs.Frontier.{IsFrontier}
-use Rattle.wp_relax.proofs.frontier.Frontier.settle_nearest.Given as goal
+use Rattle.wp_relax.proofs.frontier.Frontier.settle_waiting.Given as goal
 
 abbrev pub invariant-loop-p : goal.invariant-loop-p
 invariant-loop-p l = record {
-  frontier : IsFrontier l.self-inside.costs.items l.self-inside.settled.items (heap_items l.self-inside.waiting);
+  frontier : IsFrontier l.self-inside.costs.items l.self-inside.settled.items l.self-inside.free.items (heap_items l.self-inside.waiting);
   room : length l.self-inside.supporters.items ≡ length l.self-inside.costs.items;
   costs : l.self-inside.costs.items ≡ l.fn.self.costs;
   supporters : l.self-inside.supporters.items ≡ l.fn.self.supporters;
