@@ -1,7 +1,7 @@
 -- Numbered children as births: what novelty tables ask of births that are entered, and what they tell of them.
-use Rattle.std.proofs.Common.{◌≡◌, ℕ, zero, suc, ◌+◌, ◌-◌, ◌^◌, ◌<◌, List, [], ◌∷◌, ◌++◌, length, map, drop, get_or, Option, IfSome, refl, sym, ap, ◌∙◌, subst, append_assoc, length-drop, arith}
+use Rattle.std.proofs.Common.{◌≡◌, ℕ, zero, suc, ◌+◌, ◌^◌, ◌<◌, List, [], ◌∷◌, ◌++◌, length, map, drop, get_or, Option, IfSome, refl, sym, ap, ◌∙◌, subst, append_assoc, arith}
 use Rattle.std.specs.List.{All, AllPairs, Contains}
-use Rattle.std.proofs.lemmas.List.{map-append, get_or-drop, drop-drop, length-map, length_push}
+use Rattle.std.proofs.lemmas.List.{append-nil, map-append, length-map, length_push}
 use Rattle.std.proofs.lemmas.List.Elements.{Contains-append_right}
 use Rattle.std.proofs.lemmas.Option.{IfSome_then}
 use Rattle.wp_task.specs.Novelty.{Generated, novelty_of}
@@ -11,8 +11,9 @@ use Rattle.wp_novel.specs.Births.{Birth}
 use Rattle.wp_novel.specs.NoveltyTables.{NoveltyTables, IsOpen}
 use Rattle.wp_novel.specs.StandsFor.{generated_of, StandsFor}
 use Rattle.wp_plain.specs.Explored.{numbered, all_numbered}
+use Rattle.wp_commit.specs.declared.births.Rest.{Rest}
 use Rattle.wp_commit.specs.declared.newborn.Newborn.{Newborn}
-use Rattle.wp_commit.specs.Newborns.{birth_of, newborns_of, HasOpenPair}
+use Rattle.wp_commit.specs.Newborns.{birth_of, rest_of, child_with, newborns_of, HasOpenPair}
 use Rattle.wp_commit.proofs.ConditionLemmas.{length-numbered}
 
 -- the children as births, with the numbers from n on
@@ -24,7 +25,7 @@ generated-births : (xs : List Generated) → map generated_of (map birth_of xs) 
 generated-births [] = refl
 generated-births (x ∷ xs) = ap (λ l. x ∷ l) (generated-births xs)
 
-length-births : (n : ℕ) (children : List Child) → length (births_from n children) ≡ length children
+pub length-births : (n : ℕ) (children : List Child) → length (births_from n children) ≡ length children
 length-births n children = length-map (all_numbered n children) birth_of ∙ length-numbered n children
 
 birth-at : (n : ℕ) (children : List Child) (k : ℕ) (d : Birth) (e : Child) → k < length children →
@@ -72,42 +73,77 @@ births_rising n children i j d less within =
     omega arith
 
 -- ---- newborns, one after another
-pub drop-births : (births : List Birth) (k n : ℕ) (c : Child) (children : List Child) → drop k births ≡ births_from n (c ∷ children) →
-    drop (k + 1) births ≡ births_from (n + 1) children
-drop-births births k n c children is = sym (drop-drop 1 k births) ∙ ap (drop 1) is
+-- what is left of the births and of what else their children have is that of the children from some place on, and the newborns
+-- so far are those before it
+pub record IsLeft (width : ℕ) (all : List Generated) (first : ℕ) (children : List Child) (done : List Newborn) (births : List Birth) (rests : List Rest) : Type 0 where
+  pub left : List Child
+  pub births_are : births ≡ births_from (first + length done) left
+  pub rests_are : rests ≡ map rest_of left
+  pub among : (b : Birth) → Contains births b → Contains (births_from first children) b
+  pub newborns : done ++ newborns_of width all (first + length done) left ≡ newborns_of width all first children
 
--- the birth at a place, by what is left from there on
-birth-left : (births : List Birth) (k n : ℕ) (birth : Birth) (c : Child) (children : List Child) → drop k births ≡ births_from n (c ∷ children) →
-    get_or births k birth ≡ birth_of (numbered n c)
-birth-left births k n birth c children is =
-    ap (λ i. get_or births i birth) (let same : k ≡ k + 0 = omega arith in same)
-    ∙ (sym (get_or-drop k births 0 birth) ∙ ap (λ l. get_or l 0 birth) is)
+pub left-all : (width : ℕ) (all : List Generated) (first : ℕ) (children : List Child) (births : List Birth) (rests : List Rest) →
+    births ≡ births_from first children → rests ≡ map rest_of children → IsLeft width all first children [] births rests
+left-all width all first children births rests births_are rests_are =
+    let none : first ≡ first + 0 = omega arith in
+    record {
+      left = children;
+      births_are = births_are ∙ ap (λ n. births_from n children) none;
+      rests_are = rests_are;
+      among = λ b there. subst (λ l. Contains l b) births_are there;
+      newborns = ap (λ n. newborns_of width all n children) (sym none);
+    }
 
-place_left : (births : List Birth) (k n : ℕ) (c : Child) (children : List Child) → drop k births ≡ births_from n (c ∷ children) → k < length births
-place_left births k n c children is =
-    let some : length births - k ≡ suc (length (births_from (n + 1) children)) = sym (length-drop k births) ∙ ap length is in
-    omega arith
+pub left-none : (width : ℕ) (all : List Generated) (first : ℕ) (children : List Child) (done : List Newborn) (births : List Birth) (rests : List Rest) →
+    births ≡ [] → IsLeft width all first children done births rests → done ≡ newborns_of width all first children
+left-none width all first children done births rests empty at = by at.left at.births_are at.newborns where
+  by : (left : List Child) → births ≡ births_from (first + length done) left →
+      done ++ newborns_of width all (first + length done) left ≡ newborns_of width all first children → done ≡ newborns_of width all first children
+  by [] births_are newborns = sym (append-nil done) ∙ newborns
+  by (c ∷ cs) births_are newborns = absurd (let no : 0 ≡ suc (length (births_from (first + length done + 1) cs)) = ap length (sym empty ∙ births_are) in omega arith)
 
-pub newborns-next : (tables : NoveltyTables) (nodes : List Generated) (births : List Birth) (first : ℕ) (all left : List Child) (done : List Newborn)
-    (birth : Birth) (c : Child) (x : Newborn) → births ≡ births_from first all → drop (length done) births ≡ births_from (first + length done) (c ∷ left) →
-    birth ≡ get_or births (length done) birth → x.number ≡ birth.number → x.child ≡ c →
-    ((entered : List Birth) → StandsFor tables entered → Contains entered birth → x.w ≡ novelty_of tables.index.width (map generated_of entered) (generated_of birth)) →
-    StandsFor tables (map birth_of (nodes ++ all_numbered first all)) →
-    (done ++ x ∷ []) ++ newborns_of tables.index.width (nodes ++ all_numbered first all) (first + length (done ++ x ∷ [])) left
-    ≡ done ++ newborns_of tables.index.width (nodes ++ all_numbered first all) (first + length done) (c ∷ left)
-newborns-next tables nodes births first all left done birth c x births_are rest birth_is number_is child_is novelty stands =
-    let width = tables.index.width in
-    let nodes_all = nodes ++ all_numbered first all in
-    let n : ℕ = first + length done in
-    let is : birth ≡ birth_of (numbered n c) = birth_is ∙ birth-left births (length done) n birth c left rest in
-    let among : Contains births birth = (length done, place_left births (length done) n c left rest, sym birth_is) in
-    let there : Contains (map birth_of nodes_all) birth =
-    subst (λ l. Contains l birth) (sym (map-append birth_of nodes (all_numbered first all)))
-    (Contains-append_right (map birth_of nodes) (births_from first all) birth (subst (λ l. Contains l birth) births_are among)) in
-    let w_is : x.w ≡ novelty_of width nodes_all (numbered n c) =
-    novelty (map birth_of nodes_all) stands there ∙ (λ j. novelty_of width (generated-births nodes_all j) (generated_of (is j))) in
-    let x_is : x ≡ record { number = n; w = novelty_of width nodes_all (numbered n c); child = c } =
-    (λ j. let y : Newborn = record { number = (number_is ∙ ap (λ b. b.number) is) j; w = w_is j; child = child_is j } in y) in
-    let next : first + length (done ++ x ∷ []) ≡ n + 1 = ap (λ l. first + l) (length_push done x) ∙ (let e : first + (length done + 1) ≡ n + 1 = omega arith in e) in
-    append_assoc done (x ∷ []) (newborns_of width nodes_all (first + length (done ++ x ∷ [])) left)
-    ∙ (λ j. done ++ x_is j ∷ newborns_of width nodes_all (next j) left)
+pub left-next : (tables : NoveltyTables) (nodes : List Generated) (first : ℕ) (children : List Child) (done now : List Newborn)
+    (b : Birth) (bs : List Birth) (r : Rest) (rs : List Rest) (x : Newborn) → now ≡ done ++ x ∷ [] → x.number ≡ b.number → x.child ≡ child_with b r →
+    ((entered : List Birth) → StandsFor tables entered → Contains entered b → x.w ≡ novelty_of tables.index.width (map generated_of entered) (generated_of b)) →
+    StandsFor tables (map birth_of (nodes ++ all_numbered first children)) →
+    IsLeft tables.index.width (nodes ++ all_numbered first children) first children done (b ∷ bs) (r ∷ rs) →
+    IsLeft tables.index.width (nodes ++ all_numbered first children) first children now bs rs
+left-next tables nodes first children done now b bs r rs x pushed number_is child_is novelty stands at =
+    by at.left at.births_are at.rests_are at.newborns where
+      width : ℕ
+      width = tables.index.width
+
+      all : List Generated
+      all = nodes ++ all_numbered first children
+
+      n : ℕ
+      n = first + length done
+
+      there : Contains (map birth_of all) b
+      there = subst (λ l. Contains l b) (sym (map-append birth_of nodes (all_numbered first children)))
+          (Contains-append_right (map birth_of nodes) (births_from first children) b (at.among b (0, omega arith, refl)))
+
+      next : n + 1 ≡ first + length now
+      next = let longer : length now ≡ length done + 1 = ap length pushed ∙ length_push done x in omega arith
+
+      by : (left : List Child) → b ∷ bs ≡ births_from n left → r ∷ rs ≡ map rest_of left →
+          done ++ newborns_of width all n left ≡ newborns_of width all first children → IsLeft width all first children now bs rs
+      by [] births_are rests_are newborns = absurd (let no : suc (length bs) ≡ 0 = ap length births_are in omega arith)
+      by (c ∷ cs) births_are rests_are newborns =
+          let b_is : b ≡ birth_of (numbered n c) = ap (λ l. get_or l 0 b) births_are in
+          let r_is : r ≡ rest_of c = ap (λ l. get_or l 0 r) rests_are in
+          let w_is : x.w ≡ novelty_of width all (numbered n c) =
+          novelty (map birth_of all) stands there ∙ (λ j. novelty_of width (generated-births all j) (generated_of (b_is j))) in
+          let c_is : x.child ≡ c = child_is ∙ (λ j. child_with (b_is j) (r_is j)) in
+          let x_is : x ≡ record { number = n; w = novelty_of width all (numbered n c); child = c } =
+          (λ j. let y : Newborn = record { number = (number_is ∙ ap (λ d. d.number) b_is) j; w = w_is j; child = c_is j } in y) in
+          record {
+            left = cs;
+            births_are = ap (drop 1) births_are ∙ ap (λ k. births_from k cs) next;
+            rests_are = ap (drop 1) rests_are;
+            among = λ d later. at.among d (suc later.0, omega (arith, later.1), later.2);
+            newborns = (λ j. pushed j ++ newborns_of width all (sym next j) cs)
+                ∙ (append_assoc done (x ∷ []) (newborns_of width all (n + 1) cs)
+                ∙ ((λ j. done ++ x_is j ∷ newborns_of width all (n + 1) cs)
+                ∙ newborns));
+          }

@@ -17,12 +17,20 @@ use Rattle.wp_nodes.specs.KeptNodes.{Keeping}
 use Rattle.wp_plain.specs.declared.settings.Settings.{Settings}
 use Rattle.wp_plain.specs.Expansion.{keeps}
 use Rattle.wp_plain.specs.Explored.{numbered, track_number}
+use Rattle.wp_commit.specs.declared.births.Rest.{Rest}
 use Rattle.wp_commit.specs.declared.newborn.Newborn.{Newborn}
 use Rattle.wp_commit.specs.declared.searched.Searched.{Searched}
 
 -- a generated node as it is entered into novelty tables
 abbrev pub birth_of : Generated → Birth
 birth_of x = record { number = x.number; pair = record { g = x.counters.0; r = x.counters.1 }; state = x.state }
+
+-- what a child has besides, and the child of both
+abbrev pub rest_of : Child → Rest
+rest_of c = record { act = c.act; got = c.got; fresh = c.fresh }
+
+abbrev pub child_with : Birth → Rest → Child
+child_with b rest = record { act = rest.act; state = b.state; g = b.pair.g; r = b.pair.r; got = rest.got; fresh = rest.fresh }
 
 abbrev pub counters_of : Pair → ℕ × ℕ
 counters_of pair = (pair.g, pair.r)

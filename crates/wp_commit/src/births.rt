@@ -7,7 +7,7 @@ ghost use Rattle.wp_novel.specs.NoveltyTables.{IsOpen};
 ghost use Rattle.wp_novel.specs.StandsFor.{generated_of, StandsFor};
 ghost use Rattle.wp_plain.specs.Explored.{numbered, all_numbered};
 ghost use Rattle.wp_plain.specs.Pairs.{exceeds, tuple_count};
-ghost use Rattle.wp_commit.specs.Newborns.{birth_of, newborns_of, HasOpenPair};
+ghost use Rattle.wp_commit.specs.Newborns.{birth_of, rest_of, child_with, newborns_of, HasOpenPair};
 ghost use Rattle.wp_commit.specs.Expansions.{IsExpansionOf, IsEnteredOf};
 ghost use Rattle.wp_commit.specs.Searched.{IsTakenAtSome};
 
@@ -20,12 +20,22 @@ use std::alloc::{AllocError, Global};
 use wp_count::{Child, counters_are_carried};
 use wp_novel::{Birth, Births, Pair, Tables};
 use wp_plain::{children_are_numbered, nodes_are_numbered};
+use wp_task::{State, Track};
 
 /// An expansion whose children are numbered: they stand here with their novelties.
 #[derive(Drop)]
 pub(crate) struct Numbered {
     pub newborns: Vec<Newborn>,
     pub repeats: u64,
+}
+
+/// What a child has besides its birth: the action that leads to it, the atoms that its #r counts, and R of its state where
+/// it is a base.
+#[derive(Drop)]
+pub(crate) struct Rest {
+    pub act: u32,
+    pub got: State,
+    pub fresh: Option<Track>,
 }
 
 /// Opens the pairs of an expansion, which are within the limit of words, numbers its children, enters them into the tables, and
@@ -76,71 +86,100 @@ fn number_all(
     ensures index { tables.new.index ≡ tables.old.index }
     ensures limit { tables.new.limit ≡ tables.old.limit }
 {
-    let births = tables.enter(births_of(alloc, first, &children)?);
-    newborns_of(alloc, tables, births.as_slice(), first, children)
+    let (births, rests) = births_of(alloc, first, children)?;
+    let births = tables.enter(births);
+    newborns_of(alloc, tables, births.into_vec(), rests, first)
 }
 
-/// The children as births, with copies of their states.
-fn births_of(alloc: Global, first: u64, children: &[Child]) -> Result<Births, AllocError>
-    requires { first + length children.now < 2 ^ 63 }
-    ensures { IfOk result (λ births. births ≡ map birth_of (all_numbered first children.now)) }
+/// The children as births, which have their states, and what else they have.
+fn births_of(
+    alloc: Global,
+    first: u64,
+    children: Vec<Child>,
+) -> Result<(Births, Vec<Rest>), AllocError>
+    requires { first + length children.items < 2 ^ 63 }
+    ensures births { IfOk result (λ parts. parts.0 ≡ map birth_of (all_numbered first children.items)) }
+    ensures rests { IfOk result (λ parts. parts.1.items ≡ map rest_of children.items) }
 {
-    let mut births = Vec::with_capacity(alloc, children.len())?;
+    let count = children.len();
+    let mut births = Vec::with_capacity(alloc, count)?;
+    let mut rests = Vec::with_capacity(alloc, count)?;
     for child in children {
         let number = first + births.len() as u64;
-        births.push(birth_of(alloc, number, child)?)?;
+        let (birth, rest) = birth_of(alloc, number, child)?;
+        births.push(birth)?;
+        rests.push(rest)?;
     }
-    Ok(Births::of_vec(births))
+    Ok((Births::of_vec(births), rests))
 }
 
-fn birth_of(alloc: Global, number: u64, child: &Child) -> Result<Birth, AllocError>
-    ensures { IfOk result (λ birth. birth ≡ birth_of (numbered number child.now)) }
+/// A child as a birth, and what else it has.
+fn birth_of(alloc: Global, number: u64, child: Child) -> Result<(Birth, Rest), AllocError>
+    ensures birth { IfOk result (λ parts. parts.0 ≡ birth_of (numbered number child)) }
+    ensures rest { IfOk result (λ parts. parts.1 ≡ rest_of child) }
 {
-    let pair = Pair {
-        g: child.g,
-        r: child.r,
-    };
-    let state = child.state.copy(alloc)?;
-    Birth::of(alloc, number, pair, state)
+    let Child {
+        act,
+        state,
+        g,
+        r,
+        got,
+        fresh,
+    } = child;
+    let birth = Birth::of(alloc, number, Pair { g, r }, state)?;
+    Ok((birth, Rest { act, got, fresh }))
 }
 
 /// The children with their numbers and novelties, once they are entered as these births.
 fn newborns_of(
     alloc: Global,
     tables: &mut Tables,
-    births: &[Birth],
+    births: Vec<Birth>,
+    rests: Vec<Rest>,
     first: u64,
-    children: Vec<Child>,
 ) -> Result<Vec<Newborn>, AllocError>
-    requires births { births.now ≡ map birth_of (all_numbered first children.items) }
-    requires open { All (HasOpenPair tables.old.tables) children.items }
-    requires sizes { All (λ c. length c.state ≡ tables.old.index.atoms) children.items }
-    requires numbers { first + length children.items < 2 ^ 63 }
-    ensures newborns { IfOk result (λ newborns. (nodes : List Generated) → StandsFor tables.old (map birth_of (nodes ++ all_numbered first children.items)) →
-        newborns.items ≡ newborns_of tables.old.index.width (nodes ++ all_numbered first children.items) first children.items) }
+    requires parts { length rests.items ≡ length births.items }
+    requires open { All (λ b. IsOpen tables.old.tables b.pair) births.items }
+    requires sizes { All (λ b. length b.state ≡ tables.old.index.atoms) births.items }
+    ensures newborns { IfOk result (λ newborns. (nodes : List Generated) (children : List Child) →
+        births.items ≡ map birth_of (all_numbered first children) → rests.items ≡ map rest_of children →
+        StandsFor tables.old (map birth_of (nodes ++ all_numbered first children)) →
+        newborns.items ≡ newborns_of tables.old.index.width (nodes ++ all_numbered first children) first children) }
     ensures same { tables.new ≡ tables.old }
 {
-    let mut newborns = Vec::with_capacity(alloc, children.len())?;
-    for child in children {
-        let birth = &births[newborns.len()];
-        newborns.push(newborn_of(tables, birth, child))?;
+    let mut newborns = Vec::with_capacity(alloc, births.len())?;
+    let mut rests = rests.into_iter();
+    for birth in births {
+        let newborn = match rests.next() {
+            Some(rest) => newborn_of(tables, birth, rest),
+            None => unreachable!(),
+        };
+        newborns.push(newborn)?;
     }
     Ok(newborns)
 }
 
-/// The child with the number and the novelty of its birth.
-fn newborn_of(tables: &mut Tables, birth: &Birth, child: Child) -> Newborn
-    requires pair { IsOpen tables.old.tables birth.now.pair }
-    requires size { length birth.now.state ≡ tables.old.index.atoms }
-    ensures number { result.number ≡ birth.now.number }
-    ensures novelty { (births : List Birth) → StandsFor tables.old births → Contains births birth.now →
-        result.w ≡ novelty_of tables.old.index.width (map generated_of births) (generated_of birth.now) }
-    ensures child { result.child ≡ child }
+/// The child of a birth, with its number and novelty.
+fn newborn_of(tables: &mut Tables, birth: Birth, rest: Rest) -> Newborn
+    requires pair { IsOpen tables.old.tables birth.pair }
+    requires size { length birth.state ≡ tables.old.index.atoms }
+    ensures number { result.number ≡ birth.number }
+    ensures novelty { (births : List Birth) → StandsFor tables.old births → Contains births birth →
+        result.w ≡ novelty_of tables.old.index.width (map generated_of births) (generated_of birth) }
+    ensures child { result.child ≡ child_with birth rest }
     ensures same { tables.new ≡ tables.old }
 {
-    Newborn {
-        number: birth.number(),
-        w: tables.novelty(birth),
-        child,
-    }
+    let number = birth.number();
+    let Pair { g, r } = birth.pair();
+    let w = tables.novelty(&birth);
+    let Rest { act, got, fresh } = rest;
+    let child = Child {
+        act,
+        state: birth.into_state(),
+        g,
+        r,
+        got,
+        fresh,
+    };
+    Newborn { number, w, child }
 }

@@ -37,12 +37,15 @@ impl Words {
     }
 
     /// Marks a number at a place: the least one that was marked there stays.
+    // Most places were marked before by a lesser number, and are only read then.
     pub(crate) fn lower(&mut self, place: u64, number: u64)
         requires { place < length self.old }
         ensures { self.new ≡ marked_at number self.old place }
     {
         let place = place as usize;
-        self.items[place] = self.items[place].min(number);
+        if number < self.items[place] {
+            self.items[place] = number;
+        }
     }
 
     /// Marks a number at the places from `row` on that have the numbers of these atoms.
