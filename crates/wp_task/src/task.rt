@@ -159,7 +159,7 @@ impl Task {
         requires { a < length self.now.acts }
         ensures { result ≡ applies (act_at self.now.acts a) s.now }
     {
-        has_all(s, &self.act(a).pre)
+        has_all(s, self.pre(a))
     }
 
     /// The state that the action leads to.
@@ -195,15 +195,15 @@ impl Task {
             }
             state = self.apply(alloc, &state, *a)?;
         }
-        Ok(has_all(&state, &self.goals))
+        Ok(has_all(&state, self.goals.as_slice()))
     }
 }
 
 /// Whether all the atoms are in the state.
-fn has_all(s: &State, atoms: &Atoms) -> bool
+fn has_all(s: &State, atoms: &[u32]) -> bool
     ensures { result ≡ list_all (has s.now) atoms.now }
 {
-    atoms.as_slice().iter().all(|p| s.has(*p))
+    atoms.iter().all(|p| s.has(*p))
 }
 
 /// How many of the atoms are not in the state.
