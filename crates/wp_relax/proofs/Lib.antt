@@ -1,3 +1,4 @@
+pub mod BucketLemmas
 pub mod CostLemmas
 pub mod FlagLemmas
 pub mod PlanLemmas

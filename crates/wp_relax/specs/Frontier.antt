@@ -1,13 +1,11 @@
 -- The frontier at which atoms are settled in the order of their costs, after Dijkstra (Numerische Mathematik 1, 1959)
 -- and Knuth (Information Processing Letters 6, 1977).
 use Rattle.std.specs.Prelude.{◌≡◌, ◌==◌, ◌&&◌, ◌<◌, ◌≤◌, ℕ, nat_lt, min, Bool, false, All, Contains, List, length, map, fold, filter, slice_index, slice_index_or, Option, Some, None, if◌then◌else◌}
-use Rattle.std.specs.Ordering.{nat_cmp, ordering_then}
-use Rattle.std.specs.BinaryHeap.{IsHeap}
-use Rattle.std.specs.declared.cmp.Reverse.{Reverse}
 use Rattle.wp_task.specs.declared.acts.Act.{Act}
 use Rattle.wp_task.specs.Set.{has, lists}
 use Rattle.wp_task.specs.Task.{act_at}
 use Rattle.wp_relax.specs.AdditiveCost.{infinite}
+use Rattle.wp_relax.specs.Buckets.{Waiting, waiting_at}
 
 -- the costs and supporters of the atoms so far, and which of them are settled
 pub record Front : Type 0 where
@@ -26,36 +24,19 @@ pub record IsNearest (costs : List ℕ) (settled : List Bool) (p : ℕ) : Type 0
 abbrev pub IsSpent : List ℕ → List Bool → Type 0
 IsSpent costs settled = (q : ℕ) → q < length costs → has settled q ≡ false → infinite ≤ slice_index costs q
 
--- what waits in the heap: a cost that an atom was given, and the atom
-abbrev pub Waiting : Type 0
-Waiting = Reverse (ℕ × ℕ)
-
--- an atom costs nothing
-pub record IsFree (costs : List ℕ) (p : ℕ) : Type 0 where
-  pub within : p < length costs
-  pub nothing : slice_index costs p ≡ 0
-
 -- an atom may wait with an older cost than the one that it has
 pub record IsKnown (costs : List ℕ) (w : Waiting) : Type 0 where
   pub within : w.0.1 < length costs
   pub lower : slice_index costs w.0.1 ≤ w.0.0
   pub small : w.0.0 < infinite
 
--- each atom that is not settled and costs nothing is listed as free; each that has a finite cost above 0 waits with that
--- cost; and the heap is in order, the least cost first
-pub record IsFrontier (costs : List ℕ) (settled : List Bool) (free : List ℕ) (waiting : List Waiting) : Type 0 where
+-- each atom that is not settled and has a finite cost waits with that cost
+pub record IsFrontier (costs : List ℕ) (settled : List Bool) (waiting : List Waiting) : Type 0 where
   pub size : length settled ≡ length costs
   pub most : All (λ cost. cost ≤ infinite) costs
-  pub free_known : All (IsFree costs) free
-  pub free_each : (p : ℕ) → p < length costs → has settled p ≡ false → slice_index costs p ≡ 0 → Contains free p
   pub known : All (IsKnown costs) waiting
-  pub each : (p : ℕ) → p < length costs → has settled p ≡ false → 0 < slice_index costs p → slice_index costs p < infinite →
-      Contains waiting (record { 0 = (slice_index costs p, p) })
-  pub ordered : IsHeap (λ v w. ordering_then (nat_cmp w.0.0 v.0.0) (nat_cmp w.0.1 v.0.1)) waiting
-
--- no atom that is not settled costs nothing
-abbrev pub ArePaid : List ℕ → List Bool → Type 0
-ArePaid costs settled = (q : ℕ) → q < length costs → has settled q ≡ false → 0 < slice_index costs q
+  pub each : (p : ℕ) → p < length costs → has settled p ≡ false → slice_index costs p < infinite →
+      Contains waiting (waiting_at (slice_index costs p) p)
 
 -- an atom's cost, and the action of least number that offered it
 pub record Offered : Type 0 where

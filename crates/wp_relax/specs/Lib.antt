@@ -1,4 +1,5 @@
 pub mod AdditiveCost
+pub mod Buckets
 pub mod Frontier
 pub mod RelaxedPlan
 pub mod Laws

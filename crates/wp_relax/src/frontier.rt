@@ -1,15 +1,13 @@
 //! The costs of atoms while they are settled, the nearest first.
 //!
-//! A heap has each cost above 0 that an atom was given. Costs only fall, so the first that comes out for an atom is the one
-//! that it has; those that come later, when it is settled, are dropped. Atoms that cost nothing, as those of the state do,
-//! need no order: they lie in a plain vector and are settled first.
+//! Each cost that an atom was given waits. Costs only fall, so the first that comes out for an atom is the one that it
+//! has; those that come later, when it is settled, are dropped.
 ghost use Rattle.std.specs.Prelude.{◌≡◌, ◌==◌, ◌<◌, ℕ, false, true, replicate, length, slice_index, slice_set, None, IfOk, IfSome, IfNone, OnOk, if◌then◌else◌};
 ghost use Rattle.wp_relax.specs.AdditiveCost.{infinite};
-ghost use Rattle.wp_relax.specs.Frontier.{ArePaid, IsNearest, IsSpent, offered_to, better, preferred};
+ghost use Rattle.wp_relax.specs.Frontier.{IsNearest, IsSpent, offered_to, better, preferred};
 
+use crate::buckets::Buckets;
 use std::alloc::{AllocError, Global};
-use std::cmp::Reverse;
-use std::collections::BinaryHeap;
 use std::marker::Model;
 
 /// An infinite cost.
@@ -21,20 +19,18 @@ pub(crate) struct Frontier {
     costs: Vec<u64>,
     supporters: Vec<Option<u32>>,
     settled: Vec<bool>,
-    free: Vec<u32>,
-    waiting: BinaryHeap<Reverse<(u64, u32)>>,
+    waiting: Buckets,
 }
 
 impl Model for Frontier {
     ghost use Rattle.std.specs.Prelude.{◌≡◌, length};
-    ghost use Rattle.std.specs.BinaryHeap.{heap_items};
     ghost use Rattle.wp_relax.specs.Frontier.{Front, IsFrontier};
 
     ghost Value = { Front };
 
     ghost view = { λ f. record { costs = f.costs.items; supporters = f.supporters.items; settled = f.settled.items } };
 
-    ghost invariant = { λ f. (length f.supporters.items ≡ length f.costs.items) × IsFrontier f.costs.items f.settled.items f.free.items (heap_items f.waiting) };
+    ghost invariant = { λ f. (length f.supporters.items ≡ length f.costs.items) × IsFrontier f.costs.items f.settled.items f.waiting };
 }
 
 impl Frontier {
@@ -45,12 +41,12 @@ impl Frontier {
         let costs = vec![in alloc; INFINITE; atoms as usize]?;
         let supporters = vec![in alloc; None; atoms as usize]?;
         let settled = vec![in alloc; false; atoms as usize]?;
+        let waiting = Buckets::new(alloc)?;
         Ok(Frontier {
             costs,
             supporters,
             settled,
-            free: Vec::new(alloc),
-            waiting: BinaryHeap::new(alloc),
+            waiting,
         })
     }
 
@@ -60,7 +56,6 @@ impl Frontier {
         ensures supporters { self.new.supporters ≡ replicate (length self.old.costs) None }
         ensures settled { self.new.settled ≡ replicate (length self.old.costs) false }
     {
-        self.free.clear();
         self.waiting.clear();
         self.costs.fill(INFINITE);
         self.supporters.fill(None);
@@ -109,12 +104,7 @@ impl Frontier {
         ensures settled { self.new.settled ≡ self.old.settled }
         ensures size { length self.new.costs ≡ length self.old.costs }
     {
-        if price == 0 {
-            self.free.push(p)?;
-            self.costs[p as usize] = 0;
-            return Ok(());
-        }
-        self.waiting.push(Reverse((price, p)))?;
+        self.waiting.push(price, p)?;
         self.costs[p as usize] = price;
         Ok(())
     }
@@ -128,41 +118,8 @@ impl Frontier {
         ensures spent { IfNone result (IsSpent self.old.costs self.old.settled) }
         ensures kept { IfNone result (self.new.settled ≡ self.old.settled) }
     {
-        match self.settle_free() {
-            Some(p) => Some(p),
-            None => self.settle_waiting(),
-        }
-    }
-
-    /// Settles an atom that costs nothing; None where all that do are settled.
-    fn settle_free(&mut self) -> Option<u32>
-        ensures costs { self.new.costs ≡ self.old.costs }
-        ensures supporters { self.new.supporters ≡ self.old.supporters }
-        ensures nearest { IfSome result (IsNearest self.old.costs self.old.settled) }
-        ensures settled { IfSome result (λ p. self.new.settled ≡ slice_set self.old.settled p true) }
-        ensures paid { IfNone result (ArePaid self.old.costs self.old.settled) }
-        ensures kept { IfNone result (self.new.settled ≡ self.old.settled) }
-    {
-        while let Some(p) = self.free.pop() {
-            if !self.settled[p as usize] {
-                self.settled[p as usize] = true;
-                return Some(p);
-            }
-        }
-        None
-    }
-
-    /// Settles an atom of least cost where all that cost nothing are settled.
-    fn settle_waiting(&mut self) -> Option<u32>
-        requires { ArePaid self.old.costs self.old.settled }
-        ensures costs { self.new.costs ≡ self.old.costs }
-        ensures supporters { self.new.supporters ≡ self.old.supporters }
-        ensures nearest { IfSome result (IsNearest self.old.costs self.old.settled) }
-        ensures settled { IfSome result (λ p. self.new.settled ≡ slice_set self.old.settled p true) }
-        ensures spent { IfNone result (IsSpent self.old.costs self.old.settled) }
-        ensures kept { IfNone result (self.new.settled ≡ self.old.settled) }
-    {
-        while let Some(Reverse((_, p))) = self.waiting.pop() {
+        while let Some(first) = self.waiting.pop() {
+            let p = first.1;
             if !self.settled[p as usize] {
                 self.settled[p as usize] = true;
                 return Some(p);
@@ -202,7 +159,6 @@ impl Frontier {
             costs,
             supporters,
             settled: _,
-            free: _,
             waiting: _,
         } = self;
         (costs, supporters)

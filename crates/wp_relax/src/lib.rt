@@ -7,6 +7,7 @@
 //! relaxed plan. It knows nothing of deletes, nor of a search.
 #![tactic(auto)]
 
+mod buckets;
 pub mod costs;
 mod frontier;
 pub mod laws;

@@ -1,7 +1,5 @@
 //! For each action what is left of its preconditions, while atoms are settled.
-ghost use Rattle.std.specs.Prelude.{◌≡◌, ◌+◌, ◌-◌, ◌<◌, ◌≤◌, ℕ, min, length, map, replicate, slice_index, slice_set, IfOk, All, if◌then◌else◌};
-ghost use Rattle.std.specs.List.Sorted.{IsStrictlyIncreasing};
-ghost use Rattle.wp_task.specs.Set.{lists};
+ghost use Rattle.std.specs.Prelude.{◌≡◌, ◌+◌, ◌-◌, ◌<◌, ◌≤◌, min, length, map, replicate, slice_index, slice_set, IfOk};
 ghost use Rattle.wp_relax.specs.AdditiveCost.{infinite};
 
 use crate::frontier::INFINITE;
@@ -37,25 +35,8 @@ impl Pending {
         self.prices.fill(1);
     }
 
-    /// A precondition of the actions is settled at a cost.
-    pub(crate) fn settle_each(&mut self, needers: &[u32], cost: u64)
-        requires rising { IsStrictlyIncreasing needers.now }
-        requires numbers { All (λ a. a < length self.old.left.items) needers.now }
-        requires size { length self.old.prices.items ≡ length self.old.left.items }
-        requires waits { All (λ a. 0 < slice_index self.old.left.items a) needers.now }
-        requires bounded { All (λ price. price ≤ infinite) self.old.prices.items }
-        requires cost { cost ≤ infinite }
-        ensures left { (a : ℕ) → slice_index self.new.left.items a ≡ (if lists needers.now a then slice_index self.old.left.items a - 1 else slice_index self.old.left.items a) }
-        ensures prices { (a : ℕ) → slice_index self.new.prices.items a ≡ (if lists needers.now a then min infinite (slice_index self.old.prices.items a + cost) else slice_index self.old.prices.items a) }
-        ensures lefts { length self.new.left.items ≡ length self.old.left.items }
-        ensures size { length self.new.prices.items ≡ length self.old.prices.items }
-    {
-        for a in needers {
-            self.settle(*a, cost);
-        }
-    }
-
-    fn settle(&mut self, a: u32, cost: u64)
+    /// A precondition of an action is settled at a cost.
+    pub(crate) fn settle(&mut self, a: u32, cost: u64)
         requires left { a < length self.old.left.items }
         requires price { a < length self.old.prices.items }
         requires waits { 0 < slice_index self.old.left.items a }

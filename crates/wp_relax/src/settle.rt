@@ -4,8 +4,9 @@
 //! they add: Knuth's generalization of Dijkstra's algorithm (Information Processing Letters 6, 1977), in which each
 //! precondition and each add effect is looked at once. The rival, rounds until nothing changes, looks at all of them in
 //! each round. A price is above the costs that it is the sum of, so what is settled stays.
-ghost use Rattle.std.specs.Prelude.{◌≡◌, ◌==◌, ◌&&◌, ◌<◌, ℕ, min, length, replicate, slice_index, IfOk, OnOk, All, if◌then◌else◌};
+ghost use Rattle.std.specs.Prelude.{◌≡◌, ◌==◌, ◌&&◌, ◌+◌, ◌-◌, ◌<◌, ◌≤◌, ℕ, min, length, replicate, slice_index, IfOk, OnOk, All, if◌then◌else◌};
 ghost use Rattle.std.specs.List.{range_with_len};
+ghost use Rattle.std.specs.List.Sorted.{IsStrictlyIncreasing};
 ghost use Rattle.wp_task.specs.Set.{has, lists, AreAtoms};
 ghost use Rattle.wp_task.specs.Task.{act_at};
 ghost use Rattle.wp_relax.specs.AdditiveCost.{infinite, costs_of, supporters_of};
@@ -39,8 +40,8 @@ pub(crate) fn settle(
     offer_all(frontier, task, pending)?;
     while let Some(p) = frontier.settle_nearest() {
         let acts = task.needers(p);
-        pending.settle_each(acts, frontier.cost(p));
-        offer_each(frontier, task, pending, acts)?;
+        let cost = frontier.cost(p);
+        settle_needers(frontier, pending, task, acts, cost)?;
     }
     Ok(())
 }
@@ -76,23 +77,33 @@ fn offer_all(frontier: &mut Frontier, task: &Task, pending: &Pending) -> Result<
     Ok(())
 }
 
-/// Some actions offer their prices, where no precondition is left.
-fn offer_each(
+/// A precondition of the actions is settled at a cost, and those of which none is left offer their prices.
+fn settle_needers(
     frontier: &mut Frontier,
+    pending: &mut Pending,
     task: &Task,
-    pending: &Pending,
     acts: &[u32],
+    cost: u64,
 ) -> Result<(), AllocError>
-    requires size { length frontier.old.costs ≡ task.now.atoms }
-    requires left { length pending.now.left.items ≡ length task.now.acts }
-    requires prices { length pending.now.prices.items ≡ length task.now.acts }
+    requires atoms { length frontier.old.costs ≡ task.now.atoms }
+    requires size { length pending.old.left.items ≡ length task.now.acts }
+    requires room { length pending.old.prices.items ≡ length task.now.acts }
+    requires rising { IsStrictlyIncreasing acts.now }
     requires numbers { All (λ a. a < length task.now.acts) acts.now }
-    ensures offers { OnOk result ((p : ℕ) → offered_to frontier.new p ≡ after_offers task.now.acts pending.now.left.items pending.now.prices.items acts.now p (offered_to frontier.old p)) }
+    requires waits { All (λ a. 0 < slice_index pending.old.left.items a) acts.now }
+    requires bounded { All (λ price. price ≤ infinite) pending.old.prices.items }
+    requires cost { cost ≤ infinite }
+    ensures left { OnOk result ((a : ℕ) → slice_index pending.new.left.items a ≡ (if lists acts.now a then slice_index pending.old.left.items a - 1 else slice_index pending.old.left.items a)) }
+    ensures prices { OnOk result ((a : ℕ) → slice_index pending.new.prices.items a ≡ (if lists acts.now a then min infinite (slice_index pending.old.prices.items a + cost) else slice_index pending.old.prices.items a)) }
+    ensures lefts { length pending.new.left.items ≡ length pending.old.left.items }
+    ensures sizes { length pending.new.prices.items ≡ length pending.old.prices.items }
+    ensures offers { OnOk result ((p : ℕ) → offered_to frontier.new p ≡ after_offers task.now.acts pending.new.left.items pending.new.prices.items acts.now p (offered_to frontier.old p)) }
     ensures settled { frontier.new.settled ≡ frontier.old.settled }
-    ensures size { length frontier.new.costs ≡ length frontier.old.costs }
-    ensures room { length frontier.new.supporters ≡ length frontier.old.supporters }
+    ensures costs { length frontier.new.costs ≡ length frontier.old.costs }
+    ensures supporters { length frontier.new.supporters ≡ length frontier.old.supporters }
 {
     for a in acts {
+        pending.settle(*a, cost);
         offer(frontier, task, pending, *a)?;
     }
     Ok(())

@@ -54,23 +54,22 @@ needers-acts-requires c =
     inside c.loop-p.frontier.costs c.loop-p.frontier.settled c.in-Some.p (length c.args.s.now) c.args.task.now.atoms c.in-Some.ensures.nearest
     c.loop-p.invariant.settling.counted.size c.requires.state
 
-pub settle_each-requires-clause-rising : goal.settle_each-requires-clause-rising
-settle_each-requires-clause-rising c =
+pub settle_needers-requires-clause-rising : goal.settle_needers-requires-clause-rising
+settle_needers-requires-clause-rising c =
     subst IsStrictlyIncreasing (sym c.needers-acts.ensures.value) (needers-rise c.args.task.now.acts c.in-Some.p)
 
-pub settle_each-requires-clause-numbers : goal.settle_each-requires-clause-numbers
-settle_each-requires-clause-numbers c =
-    subst (λ (n : ℕ). All (λ a. a < n) c.needers-acts.result.now) (sym c.loop-p.invariant.left) c.needers-acts.ensures.numbers
+pub settle_needers-requires-clause-numbers : goal.settle_needers-requires-clause-numbers
+settle_needers-requires-clause-numbers c = c.needers-acts.ensures.numbers
 
-pub settle_each-requires-clause-waits : goal.settle_each-requires-clause-waits
-settle_each-requires-clause-waits c =
+pub settle_needers-requires-clause-waits : goal.settle_needers-requires-clause-waits
+settle_needers-requires-clause-waits c =
     All-same (λ a. 0 < get_or c.loop-p.pending.left.items a 0) c.needers-acts.result.now (needers_of c.args.task.now.acts c.in-Some.p)
     c.needers-acts.ensures.value
     (waits c.args.task.now.acts c.args.s.now c.loop-p.frontier.costs c.loop-p.frontier.settled c.loop-p.pending.left.items c.loop-p.pending.prices.items
     c.in-Some.p c.loop-p.invariant.settling.counted c.in-Some.ensures.nearest.unsettled)
 
-pub settle_each-requires-clause-bounded : goal.settle_each-requires-clause-bounded
-settle_each-requires-clause-bounded c =
+pub settle_needers-requires-clause-bounded : goal.settle_needers-requires-clause-bounded
+settle_needers-requires-clause-bounded c =
     prices-bounded c.args.task.now.acts c.args.s.now c.loop-p.frontier.costs c.loop-p.frontier.settled c.loop-p.pending.left.items c.loop-p.pending.prices.items
     c.loop-p.invariant.settling.counted c.loop-p.invariant.prices
 
@@ -84,30 +83,30 @@ loop-p-preserved c =
     let settled = front.settled in
     let left = c.loop-p.pending.left.items in
     let prices = c.loop-p.pending.prices.items in
-    let now_left = c.settle_each.new.self.left.items in
-    let now_prices = c.settle_each.new.self.prices.items in
-    let new = c.offer_each.new.frontier in
+    let now_left = c.settle_needers.new.pending.left.items in
+    let now_prices = c.settle_needers.new.pending.prices.items in
+    let new = c.settle_needers.new.frontier in
     let are : c.needers-acts.result.now ≡ needers_of acts p = c.needers-acts.ensures.value in
     let same : c.settle_nearest.new.self.costs ≡ costs = c.in-Some.ensures.costs in
-    let cost : c.cost.result ≡ get_or costs p 0 = c.cost.ensures ∙ ap (λ (l : List ℕ). get_or l p 0) same in
+    let cost : c.cost-cost.result ≡ get_or costs p 0 = c.cost-cost.ensures ∙ ap (λ (l : List ℕ). get_or l p 0) same in
     let left_now : (a : ℕ) → get_or now_left a 0 ≡ cond (lists (needers_of acts p) a) (get_or left a 0 - 1) (get_or left a 0) =
-    λ a. c.settle_each.ensures.left a ∙ ap (λ (l : List ℕ). cond (lists l a) (get_or left a 0 - 1) (get_or left a 0)) are in
+    λ a. c.in_ok-settle_needers.ensures.left a ∙ ap (λ (l : List ℕ). cond (lists l a) (get_or left a 0 - 1) (get_or left a 0)) are in
     let prices_now : (a : ℕ) → get_or now_prices a 0
     ≡ cond (lists (needers_of acts p) a) (min infinite (get_or prices a 0 + get_or costs p 0)) (get_or prices a 0) =
-    λ a. c.settle_each.ensures.prices a ∙ (λ j. cond (lists (are j) a) (min infinite (get_or prices a 0 + cost j)) (get_or prices a 0)) in
+    λ a. c.in_ok-settle_needers.ensures.prices a ∙ (λ j. cond (lists (are j) a) (min infinite (get_or prices a 0 + cost j)) (get_or prices a 0)) in
     let unchanged : (q : ℕ) → offered_to c.settle_nearest.new.self q ≡ offered_to front q =
     λ q j. record { cost = get_or (same j) q 0; supporter = get_or (c.in-Some.ensures.supporters j) q None } in
     let offers_now : (q : ℕ) → offered_to new q ≡ after_offers acts now_left now_prices (needers_of acts p) q (offered_to front q) =
-    λ q. c.in_ok-offer_each.ensures.offers q ∙ (λ j. after_offers acts now_left now_prices (are j) q (unchanged q j)) in
+    λ q. c.in_ok-settle_needers.ensures.offers q ∙ (λ j. after_offers acts now_left now_prices (are j) q (unchanged q j)) in
     let costs_now : (q : ℕ) → q < length state → get_or new.costs q 0 ≡ least_offer acts now_left now_prices (needers_of acts p) costs q =
     λ q within. ap (λ o. o.cost) (offers_now q) ∙ offers-cost acts now_left now_prices q (needers_of acts p) (offered_to front q) costs (λ j. get_or costs q 0) in
     let fit : All (IsAct (length state)) acts = subst (λ (n : ℕ). All (IsAct n) acts) (sym c.requires.state) c.atoms.ensures.fits.act_atoms in
     let at = c.loop-p.invariant.settling in
     let next : IsSettling acts state new.costs new.settled now_left now_prices =
     subst (λ (l : List Bool). IsSettling acts state new.costs l now_left now_prices)
-    (sym (c.in_ok-offer_each.ensures.settled ∙ c.in-Some.ensures.settled))
+    (sym (c.in_ok-settle_needers.ensures.settled ∙ c.in-Some.ensures.settled))
     (steps acts state fit costs settled left prices now_left now_prices p at c.in-Some.ensures.nearest left_now prices_now
-    new.costs (c.in_ok-offer_each.ensures.size ∙ ap length same) costs_now) in
+    new.costs (c.in_ok-settle_needers.ensures.costs ∙ ap length same) costs_now) in
     record {
       settling = next;
       supported = next-supported acts state left prices now_left now_prices (needers_of acts p) front new c.loop-p.invariant.supported
@@ -116,10 +115,10 @@ loop-p-preserved c =
           (λ a other. left_now a ∙ cond-false {A = ℕ} (lists (needers_of acts p) a) (get_or left a 0 - 1) (get_or left a 0) other)
           (λ a other. prices_now a ∙ cond-false {A = ℕ} (lists (needers_of acts p) a) (min infinite (get_or prices a 0 + get_or costs p 0)) (get_or prices a 0) other)
           (λ a number. omega (arith, next.counted.price_is a number))
-          (c.in_ok-offer_each.ensures.room ∙ ap length c.in-Some.ensures.supporters) offers_now;
-      atoms = c.in_ok-offer_each.ensures.size ∙ (ap length same ∙ c.loop-p.invariant.atoms);
-      left = c.settle_each.ensures.lefts ∙ c.loop-p.invariant.left;
-      prices = c.settle_each.ensures.size ∙ c.loop-p.invariant.prices;
+          (c.in_ok-settle_needers.ensures.supporters ∙ ap length c.in-Some.ensures.supporters) offers_now;
+      atoms = c.in_ok-settle_needers.ensures.costs ∙ (ap length same ∙ c.loop-p.invariant.atoms);
+      left = c.in_ok-settle_needers.ensures.lefts ∙ c.loop-p.invariant.left;
+      prices = c.in_ok-settle_needers.ensures.sizes ∙ c.loop-p.invariant.prices;
     }
 
 pub returns-clause-costs : goal.returns-clause-costs
