@@ -11,7 +11,7 @@ ghost use Rattle.wp_ground.specs.Sweeps.{with_schema};
 ghost use Rattle.wp_ground.specs.Numbering.{number_in};
 ghost use Rattle.wp_ground.specs.Acts.{changed_atoms};
 
-use crate::joins::ground_into;
+use crate::meeting::ground_into;
 use crate::numbering::{TaskAtoms, push_some};
 use crate::steps::Steps;
 use std::alloc::{AllocError, Global};
