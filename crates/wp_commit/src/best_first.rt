@@ -20,6 +20,7 @@ use crate::telling::tell_expansion;
 use std::alloc::{AllocError, Global};
 use std::thread::Threads;
 use wp_count::counters_are_carried;
+use wp_edge::Gate;
 use wp_novel::Tables;
 use wp_plain::{
     Counts, Ending, How, Settings, children_are_numbered, endings_answer, exceeds, first_is_least,
@@ -31,11 +32,12 @@ use wp_watch::{Watchers, places_follow};
 
 /// The search of a task, to its ending, with each expansion told. After want of memory the watchers are only good for being
 /// dropped.
-pub fn search<R: Threads + Sync>(
+pub fn search<R: Threads + Sync, G: Gate>(
     rt: &R,
     alloc: Global,
     task: &Task,
     settings: &Settings,
+    gate: &G,
     watchers: &mut Watchers,
 ) -> Result<Ending, AllocError>
     requires range { AreInRange settings.now }
@@ -48,16 +50,17 @@ pub fn search<R: Threads + Sync>(
 {
     let index = TupleIndex::new(task.atoms(), settings.width);
     let mut tables = Tables::new(alloc, index, settings.words);
-    search_in(rt, alloc, task, &mut tables, settings, watchers)
+    search_in(rt, alloc, task, &mut tables, settings, gate, watchers)
 }
 
 /// The same over tables of the caller, which are empty. Where memory is refused they are spent, as the watchers are.
-pub fn search_in<R: Threads + Sync>(
+pub fn search_in<R: Threads + Sync, G: Gate>(
     rt: &R,
     alloc: Global,
     task: &Task,
     tables: &mut Tables,
     settings: &Settings,
+    gate: &G,
     watchers: &mut Watchers,
 ) -> Result<Ending, AllocError>
     requires range { AreInRange settings.now }
@@ -73,7 +76,6 @@ pub fn search_in<R: Threads + Sync>(
         AreAfter list [] (places_in kind until told watchers.old) →
         AreAfter list (run task.now settings.now (all_tuples task.now settings.now)).1.events (places_in kind until told watchers.new)) }
 {
-    let _ = rt;
     // By this law an ending of the run answers for its task.
     endings_answer();
     if exceeds(settings.words, 1, tuple_count(settings.width, task.atoms())) {
@@ -82,8 +84,8 @@ pub fn search_in<R: Threads + Sync>(
             counts: root_alone(),
         });
     }
-    let mut run = Run::of(alloc, task, *settings)?;
-    let mut searched = opening(alloc, tables, task, settings)?;
+    let mut run = Run::of(rt, gate, alloc, task, *settings)?;
+    let mut searched = opening(&run, tables)?;
     let how = take_steps(&mut run, &mut searched, tables, watchers)?;
     Ok(Ending {
         how,
@@ -106,8 +108,8 @@ fn root_alone() -> Counts
 }
 
 /// Steps until one ends, which is at the latest the one after the budget.
-fn take_steps(
-    run: &mut Run,
+fn take_steps<R: Threads + Sync, G: Gate>(
+    run: &mut Run<R, G>,
     searched: &mut Searched,
     tables: &mut Tables,
     watchers: &mut Watchers,
@@ -129,8 +131,8 @@ fn take_steps(
 }
 
 /// One step: the first waiting node is taken and looked at.
-fn step(
-    run: &mut Run,
+fn step<R: Threads + Sync, G: Gate>(
+    run: &mut Run<R, G>,
     searched: &mut Searched,
     tables: &mut Tables,
     watchers: &mut Watchers,
@@ -151,8 +153,8 @@ fn step(
 
 /// The goal test, the budget, and then the expansion of the node that was taken.
 // The goal test is when a node is taken: one that was only generated waits its turn.
-fn look_at(
-    run: &mut Run,
+fn look_at<R: Threads + Sync, G: Gate>(
+    run: &mut Run<R, G>,
     searched: &mut Searched,
     tables: &mut Tables,
     number: u64,
@@ -177,8 +179,8 @@ fn look_at(
 }
 
 /// The expansion of the node that was taken, unless it wants more words than the limit.
-fn expand(
-    run: &mut Run,
+fn expand<R: Threads + Sync, G: Gate>(
+    run: &mut Run<R, G>,
     searched: &mut Searched,
     tables: &mut Tables,
     number: u64,

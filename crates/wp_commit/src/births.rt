@@ -17,7 +17,9 @@ use crate::pairs::open_all;
 use crate::run::Run;
 use crate::searched::{Searched, node_at};
 use std::alloc::{AllocError, Global};
+use std::thread::Threads;
 use wp_count::{Child, counters_are_carried};
+use wp_edge::Gate;
 use wp_novel::{Birth, Births, Pair, Tables};
 use wp_plain::{children_are_numbered, nodes_are_numbered};
 use wp_task::{State, Track};
@@ -40,8 +42,8 @@ pub(crate) struct Rest {
 
 /// Opens the pairs of an expansion, which are within the limit of words, numbers its children, enters them into the tables, and
 /// reads their novelties. Where memory is refused the tables are spent.
-pub(crate) fn enter(
-    run: &Run,
+pub(crate) fn enter<R: Threads + Sync, G: Gate>(
+    run: &Run<R, G>,
     searched: &Searched,
     tables: &mut Tables,
     number: u64,

@@ -4,14 +4,19 @@ ghost use Rattle.wp_plain.specs.Ranges.{AreInRange};
 
 use std::alloc::{AllocError, Global};
 use std::marker::Model;
+use std::thread::Threads;
+use wp_edge::Gate;
 use wp_plain::Settings;
 use wp_relax::Workspace;
 use wp_succ::Plain;
 use wp_task::Task;
 
-/// What a run needs throughout, made once: callers see the task and the settings, which are in range.
+/// What a run needs throughout, made once: the threads that its jobs may be run by and the gate that they pass, memory, and what
+/// it was asked for. Callers see the task and the settings, which are in range.
 #[derive(Drop)]
-pub(crate) struct Run<'a> {
+pub(crate) struct Run<'a, R, G> {
+    pub rt: &'a R,
+    pub gate: &'a G,
     pub alloc: Global,
     pub task: &'a Task,
     pub settings: Settings,
@@ -19,7 +24,7 @@ pub(crate) struct Run<'a> {
     pub work: Workspace,
 }
 
-impl<'a> Model for Run<'a> {
+impl<'a, R, G> Model for Run<'a, R, G> {
     ghost use Rattle.std.specs.Prelude.{◌≡◌};
     ghost use Rattle.wp_relax.specs.Workspace.{room_for};
     ghost use Rattle.wp_plain.specs.Ranges.{AreInRange};
@@ -32,18 +37,22 @@ impl<'a> Model for Run<'a> {
     ghost invariant = { λ r. AreInRange r.settings × (r.work ≡ room_for r.task.now) };
 }
 
-impl<'a> Run<'a> {
+impl<'a, R: Threads + Sync, G: Gate> Run<'a, R, G> {
     pub(crate) fn of(
+        rt: &'a R,
+        gate: &'a G,
         alloc: Global,
         task: &'a Task,
         settings: Settings,
-    ) -> Result<Run<'a>, AllocError>
+    ) -> Result<Run<'a, R, G>, AllocError>
         requires { AreInRange settings }
         ensures { IfOk result (λ run. run ≡ record { task = task.now; settings = settings }) }
     {
         let succ = Plain::of(task);
         let work = Workspace::of(alloc, task)?;
         Ok(Run {
+            rt,
+            gate,
             alloc,
             task,
             settings,

@@ -14,8 +14,8 @@ use wp_watch::{Born, Borns, Event, Watchers};
 
 /// Tells the expansion of a node, with its newborns. Where nobody watches no event is made. After want of memory the
 /// watchers are only good for being dropped.
-pub(crate) fn tell_expansion(
-    run: &Run,
+pub(crate) fn tell_expansion<R, G>(
+    run: &Run<R, G>,
     node: &Kept,
     numbered: &Numbered,
     watchers: &mut Watchers,

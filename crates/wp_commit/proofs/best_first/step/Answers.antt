@@ -8,12 +8,12 @@ use Rattle.wp_commit.proofs.TakeLemmas.{HoldsAt-queue, taken_first, none_taken}
 use Rattle.wp_commit.proofs.StepLemmas.{Steps-same}
 use Rattle.wp_commit.proofs.best_first.step.Goals as goal
 
-pub look_at-requires : goal.look_at-requires
-look_at-requires g c =
+pub look_at-requires-clause-taken : goal.look_at-requires-clause-taken
+look_at-requires-clause-taken g c κs bounds =
     let m = c.requires.stands.0 in
     let found =
     taken_first c.args.run.now.task c.args.run.now.settings c.args.searched.now c.args.tables.now m c.first_is_least.ensures c.take.new.self c.in-Some.number c.requires.stands.1 c.in-Some.ensures.taken in
-    record { taken = (m, found.node, found.taken, c.requires.stands.2) }
+    (m, found.node, found.taken, c.requires.stands.2)
 
 pub returns-in-Some-clause-steps : goal.returns-in-Some-clause-steps
 returns-in-Some-clause-steps g c =

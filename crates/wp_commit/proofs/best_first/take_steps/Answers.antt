@@ -7,14 +7,12 @@ use Rattle.wp_commit.specs.Asked.{Asked}
 use Rattle.wp_commit.specs.Searched.{progress, StandsAtSome, StepsFrom}
 use Rattle.wp_commit.proofs.best_first.take_steps.Goals as goal
 
-pub step-requires : goal.step-requires
-step-requires g c =
+pub step-requires-clause-stands : goal.step-requires-clause-stands
+step-requires-clause-stands g c κs bounds =
     let places = λ (w : _).
     places_in (λ (z : _). (goal.Watch-dyn g z).kind z.1) (λ (z : _). (goal.Watch-dyn g z).until z.1) (λ (z : _). (goal.Watch-dyn g z).told z.1) w in
-    record {
-      stands = subst (λ (a : Asked). StandsAtSome a.task a.settings (progress c.loop-step.searched c.loop-step.tables (places c.loop-step.watchers)))
-          (sym c.loop-step.invariant.same) c.loop-step.invariant.stands;
-    }
+    subst (λ (a : Asked). StandsAtSome a.task a.settings (progress c.loop-step.searched c.loop-step.tables (places c.loop-step.watchers)))
+    (sym c.loop-step.invariant.same) c.loop-step.invariant.stands
 
 pub returns-in-Some-clause-runs : goal.returns-in-Some-clause-runs
 returns-in-Some-clause-runs g c m stands =
