@@ -3,13 +3,14 @@
 //! `search_from` is the search over any of them: the first waiting node is taken, looked at and expanded, until a step
 //! ends. The order of the tests stands here alone.
 ghost use Rattle.std.specs.Prelude.{◌≡◌, ◌==◌, ℕ, List, All, [], Option, Some, true, false, length, map, IfOk, OnOk, IfSome, MatchOption};
-ghost use Rattle.wp_task.specs.Task.{PlanningTask};
+ghost use Rattle.wp_task.specs.Task.{PlanningTask, IsTask};
 ghost use Rattle.wp_watch.specs.declared.watch.WatchKind.{WatchKind};
 ghost use Rattle.wp_watch.specs.Places.{AreAfter, AreUntold, CanTellPlace, told_place};
 ghost use Rattle.wp_plain.specs.declared.settings.Settings.{Settings};
 ghost use Rattle.wp_plain.specs.Nodes.{Node, path_at};
 ghost use Rattle.wp_plain.specs.Pairs.{pairs_in, exceeds};
 ghost use Rattle.wp_plain.specs.Places.{places_in};
+ghost use Rattle.wp_plain.specs.Ranges.{AreInRange};
 ghost use Rattle.wp_plain.specs.Numbers.{next_of};
 ghost use Rattle.wp_plain.specs.Run.{Moment, opening, expand, look_at, step, all_at, counts_of, ending_of};
 ghost use Rattle.wp_plain.specs.Steps.{Asked, end_of, IsBounded, CanExpand, IsEventFor, HasTakenFirst, IsSpare, StandsAtSome, IsTakenAtSome, StepsFrom, StepsAt, RunsFrom};
@@ -62,6 +63,8 @@ pub trait BestFirst {
 
     /// Evaluates the children of the node that was taken, and counts the pairs of counters of all nodes with them.
     fn evaluate(&mut self, run: &Run, number: u64) -> Result<(u64, Self::Expansion), AllocError>
+        requires range { AreInRange run.now.settings }
+        requires fits { IsTask run.now.task }
         requires taken { (m : Moment) × (node : Node) × has_taken self.old run.now m node number × IsBounded run.now.settings m }
         ensures { IfOk result (λ x. (m : Moment) (node : Node) → has_taken self.old run.now m node number →
             has_evaluated self.new run.now m node number x.1 × (x.0 ≡ length (pairs_in (all_at run.now.task m node)))) };
@@ -74,6 +77,8 @@ pub trait BestFirst {
         expansion: Self::Expansion,
         wanted: bool,
     ) -> Result<Option<Event>, AllocError>
+        requires range { AreInRange run.now.settings }
+        requires fits { IsTask run.now.task }
         requires can { (m : Moment) × (node : Node) × has_evaluated self.old run.now m node number expansion × CanExpand run.now m node }
         ensures { IfOk result (λ told. (m : Moment) (node : Node) → has_evaluated self.old run.now m node number expansion →
             CanExpand run.now m node →
@@ -180,8 +185,9 @@ fn expand<S: BestFirst>(
 {
     // By the law of places the watchers can be told one more event.
     places_follow();
+    let settings = run.settings();
     let (pairs, expansion) = search.evaluate(run, number)?;
-    if exceeds(run.settings().words, pairs, run.tuples()) {
+    if exceeds(settings.words, pairs, run.tuples()) {
         return Ok(Some(How::Words { pairs }));
     }
     let wanted = is_watched(watchers);

@@ -22,7 +22,7 @@ pub mod search;
 pub mod settings;
 mod telling;
 
-pub use best_first::{BestFirst, search_from};
+pub use best_first::{BestFirst, root_alone, search_from};
 pub use ending::{Counts, Ending, How};
 pub use first::first_is_least;
 pub use laws::{

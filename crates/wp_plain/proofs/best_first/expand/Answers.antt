@@ -11,20 +11,17 @@ use Rattle.wp_plain.proofs.SmallLemmas.{can-expand}
 use Rattle.wp_plain.proofs.ToldLemmas.{can-be-told, can-tell-some, told-one}
 use Rattle.wp_plain.proofs.best_first.expand.Goals as goal
 
-pub admit-requires : goal.admit-requires
-admit-requires g c =
+pub admit-requires-clause-can : goal.admit-requires-clause-can
+admit-requires-clause-can g c =
     let asked = c.args.run.now in
     let any = c.requires.taken in
-    let x = c.in_ok-pairs.ensures any.0 any.1 any.2.0 in
-    record {
-      can = (
-        any.0,
-        any.1,
-        x.0,
-        can-expand asked any.0 any.1 c.settings.ensures.fits any.2.1 any.3 c.settings.result.now.words c.in_ok-pairs.pairs c.tuples.result c.exceeds.result
-            (ap (λ (s : Settings). s.words) c.settings.ensures.value) x.1 c.tuples.ensures c.exceeds.ensures c.if-exceeds.false,
-      );
-    }
+    let x = c.in_ok-pairs.ensures any.0 any.1 any.2.0 in (
+      any.0,
+      any.1,
+      x.0,
+      can-expand asked any.0 any.1 c.settings-settings.ensures.fits any.2.1 any.3 c.settings-settings.result.now.words c.in_ok-pairs.pairs c.tuples.result c.exceeds.result
+          (ap (λ (s : Settings). s.words) c.settings-settings.ensures.value) x.1 c.tuples.ensures c.exceeds.ensures c.if-exceeds.false,
+    )
 
 pub tell-requires : goal.tell-requires
 tell-requires g c =
@@ -33,11 +30,11 @@ tell-requires g c =
     let asked = c.args.run.now in
     let any = c.requires.taken in
     let x = c.in_ok-pairs.ensures any.0 any.1 any.2.0 in
-    let can = can-expand asked any.0 any.1 c.settings.ensures.fits any.2.1 any.3 c.settings.result.now.words c.in_ok-pairs.pairs c.tuples.result c.exceeds.result
-    (ap (λ (s : Settings). s.words) c.settings.ensures.value) x.1 c.tuples.ensures c.exceeds.ensures c.if-exceeds.false in
+    let can = can-expand asked any.0 any.1 c.settings-settings.ensures.fits any.2.1 any.3 c.settings-settings.result.now.words c.in_ok-pairs.pairs c.tuples.result c.exceeds.result
+    (ap (λ (s : Settings). s.words) c.settings-settings.ensures.value) x.1 c.tuples.ensures c.exceeds.ensures c.if-exceeds.false in
     can-tell-some (event_for asked any.0 any.1) (places c.args.watchers.now) (c.is_watched-wanted.result ≡ false) c.in_ok-event.event
     (c.in_ok-event.ensures any.0 any.1 x.0 can).1
-    (can-be-told c.places_follow.ensures.can asked any.0 any.1 (places c.args.watchers.now) c.settings.ensures.range.budget.1 can.later any.4)
+    (can-be-told c.places_follow.ensures.can asked any.0 any.1 (places c.args.watchers.now) c.settings-settings.ensures.range.budget.1 can.later any.4)
 
 pub returns : goal.returns
 returns g c m node at bounded =
@@ -45,8 +42,8 @@ returns g c m node at bounded =
     places_in (λ (z : _). (goal.Watch-dyn g z).kind z.1) (λ (z : _). (goal.Watch-dyn g z).until z.1) (λ (z : _). (goal.Watch-dyn g z).told z.1) w in
     let asked = c.args.run.now in
     let x = c.in_ok-pairs.ensures m node at.0 in
-    let can = can-expand asked m node c.settings.ensures.fits at.1 bounded c.settings.result.now.words c.in_ok-pairs.pairs c.tuples.result c.exceeds.result
-    (ap (λ (s : Settings). s.words) c.settings.ensures.value) x.1 c.tuples.ensures c.exceeds.ensures c.if-exceeds.false in
+    let can = can-expand asked m node c.settings-settings.ensures.fits at.1 bounded c.settings-settings.result.now.words c.in_ok-pairs.pairs c.tuples.result c.exceeds.result
+    (ap (λ (s : Settings). s.words) c.settings-settings.ensures.value) x.1 c.tuples.ensures c.exceeds.ensures c.if-exceeds.false in
     let after = c.in_ok-event.ensures m node x.0 can in (
       next_of asked.task asked.settings m node,
       after.0,
