@@ -17,9 +17,7 @@ use crate::pairs::open_all;
 use crate::run::Run;
 use crate::searched::{Searched, node_at};
 use std::alloc::{AllocError, Global};
-use std::thread::Threads;
 use wp_count::{Child, counters_are_carried};
-use wp_edge::Gate;
 use wp_novel::{Birth, Births, Pair, Tables};
 use wp_plain::{children_are_numbered, nodes_are_numbered};
 use wp_task::{State, Track};
@@ -42,7 +40,7 @@ pub(crate) struct Rest {
 
 /// Opens the pairs of an expansion, which are within the limit of words, numbers its children, enters them into the tables, and
 /// reads their novelties. Where memory is refused the tables are spent.
-pub(crate) fn enter<R: Threads + Sync, G: Gate>(
+pub(crate) fn enter<R, G>(
     run: &Run<R, G>,
     searched: &Searched,
     tables: &mut Tables,
@@ -51,7 +49,7 @@ pub(crate) fn enter<R: Threads + Sync, G: Gate>(
 ) -> Result<Numbered, AllocError>
     requires taken { IsTakenAtSome run.now.task run.now.settings searched.now tables.old number }
     requires evaluated { IsExpansionOf run.now.task searched.now tables.old number expansion }
-    requires spare { searched.now.expanded < run.now.settings.budget }
+    requires numbers { searched.now.numbered + length expansion.fresh.items < 2 ^ 63 }
     requires few { exceeds run.now.settings.words (length tables.old.tables + length expansion.pairs.items) (tuple_count run.now.settings.width run.now.task.atoms) ≡ false }
     ensures { IfOk result (IsEnteredOf run.now.task run.now.settings searched.now tables.old number expansion tables.new) }
 {

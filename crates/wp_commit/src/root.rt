@@ -11,9 +11,10 @@ ghost use Rattle.wp_commit.specs.Searched.{StandsAt};
 use crate::pairs::open;
 use crate::run::Run;
 use crate::searched::Searched;
+use crate::store::Store;
 use std::alloc::{AllocError, Global};
 use std::thread::Threads;
-use wp_count::{counters_are_carried, root_of};
+use wp_count::counters_are_carried;
 use wp_edge::Gate;
 use wp_nodes::{Kept, Nodes};
 use wp_novel::{Birth, Births, Pair, Tables};
@@ -21,6 +22,27 @@ use wp_queue::Queue;
 
 /// The root, entered into tables that are empty, kept and waiting.
 pub(crate) fn opening<R: Threads + Sync, G: Gate>(
+    run: Run<R, G>,
+    tables: Tables,
+) -> Result<Store<R, G>, AllocError>
+    requires index { tables.index ≡ record { atoms = run.task.atoms; width = run.settings.width } }
+    requires limit { tables.limit ≡ run.settings.words }
+    requires empty { tables.tables ≡ [] }
+    requires collected { tables.last ≡ None }
+    requires few { exceeds run.settings.words 1 (tuple_count run.settings.width run.task.atoms) ≡ false }
+    ensures { IfOk result (λ store. StandsAt run.entry.task run.entry.settings store.searched store.tables (opening run.entry.task run.entry.settings) × (store.run ≡ run.entry)) }
+{
+    let mut tables = tables;
+    let searched = root_of(&run, &mut tables)?;
+    Ok(Store {
+        run,
+        searched,
+        tables,
+    })
+}
+
+/// The root alone, over these tables.
+fn root_of<R: Threads + Sync, G: Gate>(
     run: &Run<R, G>,
     tables: &mut Tables,
 ) -> Result<Searched, AllocError>
@@ -34,7 +56,7 @@ pub(crate) fn opening<R: Threads + Sync, G: Gate>(
     // The law of the counters: what is kept of a node gives those of its whole path.
     counters_are_carried();
     let alloc = run.alloc;
-    let (state, mark, track) = root_of(alloc, run.task)?;
+    let (state, mark, track) = wp_count::root_of(alloc, run.task)?;
     let g = mark.g;
     let copy = state.copy(alloc)?;
     let root = Birth::of(alloc, 0, Pair { g, r: mark.r }, copy)?;

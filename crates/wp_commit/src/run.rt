@@ -1,5 +1,6 @@
 //! What a run needs throughout.
 ghost use Rattle.std.specs.Prelude.{◌≡◌, IfOk};
+ghost use Rattle.wp_plain.specs.Pairs.{all_tuples};
 ghost use Rattle.wp_plain.specs.Ranges.{AreInRange};
 
 use std::alloc::{AllocError, Global};
@@ -12,7 +13,7 @@ use wp_succ::Plain;
 use wp_task::Task;
 
 /// What a run needs throughout, made once: the threads that its jobs may be run by and the gate that they pass, memory, and what
-/// it was asked for. Callers see the task and the settings, which are in range.
+/// it was asked for. Callers see the task, the settings, which are in range, and the number of all tuples.
 #[derive(Drop)]
 pub(crate) struct Run<'a, R, G> {
     pub rt: &'a R,
@@ -27,12 +28,13 @@ pub(crate) struct Run<'a, R, G> {
 impl<'a, R, G> Model for Run<'a, R, G> {
     ghost use Rattle.std.specs.Prelude.{◌≡◌};
     ghost use Rattle.wp_relax.specs.Workspace.{room_for};
+    ghost use Rattle.wp_plain.specs.Pairs.{all_tuples};
     ghost use Rattle.wp_plain.specs.Ranges.{AreInRange};
-    ghost use Rattle.wp_commit.specs.Asked.{Asked};
+    ghost use Rattle.wp_plain.specs.Steps.{Asked};
 
     ghost Value = { Asked };
 
-    ghost view = { λ r. record { task = r.task.now; settings = r.settings } };
+    ghost view = { λ r. record { task = r.task.now; settings = r.settings; tuples = all_tuples r.task.now r.settings } };
 
     ghost invariant = { λ r. AreInRange r.settings × (r.work ≡ room_for r.task.now) };
 }
@@ -46,7 +48,7 @@ impl<'a, R: Threads + Sync, G: Gate> Run<'a, R, G> {
         settings: Settings,
     ) -> Result<Run<'a, R, G>, AllocError>
         requires { AreInRange settings }
-        ensures { IfOk result (λ run. run ≡ record { task = task.now; settings = settings }) }
+        ensures { IfOk result (λ run. run ≡ record { task = task.now; settings = settings; tuples = all_tuples task.now settings }) }
     {
         let succ = Plain::of(task);
         let work = Workspace::of(alloc, task)?;

@@ -5,7 +5,7 @@ use Rattle.wp_task.specs.Task.{PlanningTask}
 use Rattle.wp_count.specs.Broods.{IsCountOn}
 use Rattle.wp_plain.specs.Pairs.{with_pair}
 use Rattle.wp_plain.specs.Explored.{child_pair}
-use Rattle.wp_commit.specs.Asked.{Asked}
+use Rattle.wp_plain.specs.Steps.{Asked}
 use Rattle.wp_commit.specs.Newborns.{counters_of}
 use Rattle.wp_commit.specs.Expansions.{states_of, IsExpansionOf}
 use Rattle.wp_commit.proofs.EvaluationLemmas.{expansion-is, successors-few, unseen-sized}

@@ -6,9 +6,9 @@ use Rattle.wp_novel.specs.Births.{Birth}
 use Rattle.wp_novel.specs.StandsFor.{generated_of, StandsFor}
 use Rattle.wp_queue.specs.OpenList.{waiting, IsWith}
 use Rattle.wp_nodes.specs.KeptNodes.{Keeping}
-use Rattle.wp_commit.specs.Asked.{Asked}
+use Rattle.wp_plain.specs.Steps.{Asked}
 use Rattle.wp_commit.proofs.RootLemmas.{root_birth, root_kept, opening-stands}
-use Rattle.wp_commit.proofs.root.opening.Goals as goal
+use Rattle.wp_commit.proofs.root.root_of.Goals as goal
 
 pub returns : goal.returns
 returns g c =
