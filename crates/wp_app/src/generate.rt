@@ -18,6 +18,7 @@ use crate::shown::Shown;
 use crate::stop::Stop;
 use std::alloc::Global;
 use std::thread::Threads;
+use wp_edge::Gate;
 use wp_gen::depot_task;
 use wp_plain::Settings;
 use wp_report::gen_text;
@@ -25,13 +26,14 @@ use wp_watch::Watchers;
 
 /// How the search of the task of a number and a size ends, behind the line that names them.
 #[tactic(auto, unfolding(crate::specs::Output::generated_step))]
-pub fn generated<R: Threads + Sync>(
+pub fn generated<R: Threads + Sync, G: Gate>(
     rt: &R,
     alloc: Global,
     number: u64,
     size: u32,
     settings: &Settings,
     plain: bool,
+    gate: &G,
     watchers: Watchers,
 ) -> Result<Reply, Stop>
     requires size { IsSize size }
@@ -46,7 +48,7 @@ pub fn generated<R: Threads + Sync>(
         front: gen_text(alloc, number, size)?,
         with_plan: false,
     };
-    planned(rt, alloc, shown, &texts, settings, plain, watchers)
+    planned(rt, alloc, shown, &texts, settings, plain, gate, watchers)
 }
 
 /// The domain and the problem of a number and a size.

@@ -23,7 +23,7 @@ use crate::stop::Stop;
 use std::alloc::{AllocError, Global};
 use std::thread::Threads;
 use wp_commit::search;
-use wp_edge::{Shelf, Text, Texts as Names};
+use wp_edge::{Gate, Shelf, Text, Texts as Names};
 use wp_ground::Grounded;
 use wp_plain::{Ending, How, Search, Settings, found_is_plan, plain_search, tuple_count};
 use wp_report::ending_text;
@@ -32,7 +32,7 @@ use wp_watch::{Watchers, places_follow};
 
 /// How the search of the task of a domain and a problem ends, of the files of these names.
 #[tactic(auto, unfolding(crate::specs::Output::files_planned_step))]
-pub fn plan_files<R: Threads + Sync, S: Shelf>(
+pub fn plan_files<R: Threads + Sync, S: Shelf, G: Gate>(
     rt: &R,
     alloc: Global,
     shelf: &mut S,
@@ -40,6 +40,7 @@ pub fn plan_files<R: Threads + Sync, S: Shelf>(
     problem: &Text,
     settings: &Settings,
     plain: bool,
+    gate: &G,
     watchers: Watchers,
 ) -> Result<Reply, Stop>
     requires domain { IsUtf8 domain.now }
@@ -55,7 +56,7 @@ pub fn plan_files<R: Threads + Sync, S: Shelf>(
 {
     let texts = read_texts(alloc, shelf, domain, problem)?;
     let shown = whole(alloc);
-    planned(rt, alloc, shown, &texts, settings, plain, watchers)
+    planned(rt, alloc, shown, &texts, settings, plain, gate, watchers)
 }
 
 // All of a search, with nothing before it.
@@ -70,13 +71,14 @@ fn whole(alloc: Global) -> Shown
 
 /// The answer to a domain and a problem that have no fault of their own.
 #[tactic(auto, unfolding(crate::specs::Output::planned_step))]
-pub fn planned<R: Threads + Sync>(
+pub fn planned<R: Threads + Sync, G: Gate>(
     rt: &R,
     alloc: Global,
     shown: Shown,
     texts: &Texts,
     settings: &Settings,
     plain: bool,
+    gate: &G,
     watchers: Watchers,
 ) -> Result<Reply, Stop>
     requires range { AreInRange settings.now }
@@ -87,18 +89,19 @@ pub fn planned<R: Threads + Sync>(
 {
     let lifted = lifted_of(alloc, texts)?;
     let grounded = grounded_of(alloc, &lifted)?;
-    Ok(searched(rt, alloc, shown, settings, &grounded, plain, watchers)?)
+    Ok(searched(rt, alloc, shown, settings, &grounded, plain, gate, watchers)?)
 }
 
 /// The ending of the search of the task, and what the watchers say of it.
 #[tactic(auto, unfolding(crate::specs::Output::searched_reply))]
-fn searched<R: Threads + Sync>(
+fn searched<R: Threads + Sync, G: Gate>(
     rt: &R,
     alloc: Global,
     shown: Shown,
     settings: &Settings,
     grounded: &Grounded,
     plain: bool,
+    gate: &G,
     watchers: Watchers,
 ) -> Result<Reply, AllocError>
     requires range { AreInRange settings.now }
@@ -113,7 +116,15 @@ fn searched<R: Threads + Sync>(
     // By the law of places each watcher says what it wants of all events.
     places_follow();
     let mut watchers = watchers;
-    let ending = search_task(rt, alloc, &grounded.task, settings, plain, &mut watchers)?;
+    let ending = search_task(
+        rt,
+        alloc,
+        &grounded.task,
+        settings,
+        plain,
+        gate,
+        &mut watchers,
+    )?;
     let reply = ending_reply(alloc, shown, settings, grounded, &ending)?;
     let texts = watchers.texts(alloc)?;
     with_texts(reply, &texts)
@@ -135,12 +146,13 @@ fn with_texts(reply: Reply, texts: &Names) -> Result<Reply, AllocError>
 }
 
 /// The ending of the search, by scanning lists or by the fast search: it is the same, and so are its events.
-fn search_task<R: Threads + Sync>(
+fn search_task<R: Threads + Sync, G: Gate>(
     rt: &R,
     alloc: Global,
     task: &Task,
     settings: &Settings,
     plain: bool,
+    gate: &G,
     watchers: &mut Watchers,
 ) -> Result<Ending, AllocError>
     requires range { AreInRange settings.now }
@@ -152,7 +164,7 @@ fn search_task<R: Threads + Sync>(
     if plain {
         plain_search(alloc, task, settings, watchers)
     } else {
-        search(rt, alloc, task, settings, watchers)
+        search(rt, alloc, task, settings, gate, watchers)
     }
 }
 

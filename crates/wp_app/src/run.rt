@@ -36,7 +36,7 @@ pub fn run_words<R: Threads + Sync, S: Shelf, K: Sink, G: Gate>(
     words: &[String],
     shelf: &mut S,
     sink: &mut K,
-    _gate: &G,
+    gate: &G,
     watchers: Vec<Box<dyn Watch>>,
 ) -> Status
     requires { All (λ watch. told watch ≡ []) watchers.items }
@@ -63,7 +63,7 @@ pub fn run_words<R: Threads + Sync, S: Shelf, K: Sink, G: Gate>(
     ensures shelf_later { S.faults shelf.old ≤ S.faults shelf.new }
     ensures sink_later { K.faults sink.old ≤ K.faults sink.new }
 {
-    let Ok(reply) = reply_to(rt, alloc, words, shelf, watchers) else {
+    let Ok(reply) = reply_to(rt, alloc, words, shelf, gate, watchers) else {
         return Status::Memory;
     };
     match put_all(sink, reply.text.as_slice()) {
@@ -73,11 +73,12 @@ pub fn run_words<R: Threads + Sync, S: Shelf, K: Sink, G: Gate>(
 }
 
 /// What is to be written.
-fn reply_to<R: Threads + Sync, S: Shelf>(
+fn reply_to<R: Threads + Sync, S: Shelf, G: Gate>(
     rt: &R,
     alloc: Global,
     words: &[String],
     shelf: &mut S,
+    gate: &G,
     watchers: Vec<Box<dyn Watch>>,
 ) -> Result<Reply, AllocError>
     requires { All (λ watch. told watch ≡ []) watchers.items }
@@ -91,7 +92,7 @@ fn reply_to<R: Threads + Sync, S: Shelf>(
         Ok(command) => {
             let kept = kept_for(alloc, &command, watchers)?;
             let watchers = Watchers::new(alloc, kept)?;
-            command_reply(rt, alloc, &command, shelf, watchers)
+            command_reply(rt, alloc, &command, shelf, gate, watchers)
         }
         Err(WordsError::Usage) => Ok(Reply {
             text: usage_text(alloc)?,
@@ -142,11 +143,12 @@ fn keeps_kind(command: &Command, kind: WatchKind) -> bool
 }
 
 /// What is to be written for a command.
-fn command_reply<R: Threads + Sync, S: Shelf>(
+fn command_reply<R: Threads + Sync, S: Shelf, G: Gate>(
     rt: &R,
     alloc: Global,
     command: &Command,
     shelf: &mut S,
+    gate: &G,
     watchers: Watchers,
 ) -> Result<Reply, AllocError>
     requires names { HasNames command.now }
@@ -157,7 +159,7 @@ fn command_reply<R: Threads + Sync, S: Shelf>(
     ensures contents { S.contents shelf.new ≡ S.contents shelf.old }
     ensures later { S.faults shelf.old ≤ S.faults shelf.new }
 {
-    match run_command(rt, alloc, command, shelf, watchers) {
+    match run_command(rt, alloc, command, shelf, gate, watchers) {
         Ok(reply) => Ok(reply),
         Err(Stop::Ends { reply }) => Ok(reply),
         Err(Stop::ReadFault { part }) => Ok(Reply {
@@ -170,11 +172,12 @@ fn command_reply<R: Threads + Sync, S: Shelf>(
 
 /// The answer to a command.
 #[tactic(auto, unfolding(crate::specs::Output::run_step))]
-fn run_command<R: Threads + Sync, S: Shelf>(
+fn run_command<R: Threads + Sync, S: Shelf, G: Gate>(
     rt: &R,
     alloc: Global,
     command: &Command,
     shelf: &mut S,
+    gate: &G,
     watchers: Watchers,
 ) -> Result<Reply, Stop>
     requires names { HasNames command.now }
@@ -201,7 +204,7 @@ fn run_command<R: Threads + Sync, S: Shelf>(
             watch: _,
             plain,
         } => plan_files(
-            rt, alloc, shelf, domain, problem, settings, *plain, watchers,
+            rt, alloc, shelf, domain, problem, settings, *plain, gate, watchers,
         ),
         Command::Gen {
             number,
@@ -209,6 +212,6 @@ fn run_command<R: Threads + Sync, S: Shelf>(
             settings,
             watch: _,
             plain,
-        } => generated(rt, alloc, *number, *size, settings, *plain, watchers),
+        } => generated(rt, alloc, *number, *size, settings, *plain, gate, watchers),
     }
 }

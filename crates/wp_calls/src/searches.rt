@@ -8,6 +8,7 @@ use std::process::Abort;
 use std::test::Fail;
 use std::thread::Threads;
 use wp_commit::{search, search_in};
+use wp_edge::OpenGate;
 use wp_novel::Tables;
 use wp_plain::{Counts, Ending, How, Search, Settings, plain_search};
 use wp_task::Task;
@@ -79,12 +80,20 @@ fn compare_searches<R: Abort + Threads + Sync>(
     let ending = plain_search(alloc, task, settings, &mut nobody)?;
     compare(rt, &ending, &wanted, counts);
     let mut nobody = Watchers::new(alloc, Vec::new(alloc))?;
-    let ending = search(rt, alloc, task, settings, &mut nobody)?;
+    let ending = search(rt, alloc, task, settings, &OpenGate, &mut nobody)?;
     compare(rt, &ending, &wanted, counts);
     let index = TupleIndex::new(task.atoms(), settings.width);
     let mut tables = Tables::new(alloc, index, settings.words);
     let mut nobody = Watchers::new(alloc, Vec::new(alloc))?;
-    let ending = search_in(rt, alloc, task, &mut tables, settings, &mut nobody)?;
+    let ending = search_in(
+        rt,
+        alloc,
+        task,
+        &mut tables,
+        settings,
+        &OpenGate,
+        &mut nobody,
+    )?;
     compare(rt, &ending, &wanted, counts);
     Ok(tables.pairs())
 }

@@ -8,7 +8,7 @@ use std::alloc::Global;
 use std::test::Fail;
 use std::thread::Threads;
 use wp_commit::search;
-use wp_edge::Texts;
+use wp_edge::{OpenGate, Texts};
 use wp_plain::{Ending, How, Search, Settings, plain_search};
 use wp_watch::{Silent, Trace, Watch, Watchers};
 
@@ -47,7 +47,7 @@ fn fast<R: Threads + Sync>(
 {
     let task = chain(alloc)?;
     let mut watchers = Watchers::new(alloc, list)?;
-    let ending = search(rt, alloc, &task, &settings(), &mut watchers)?;
+    let ending = search(rt, alloc, &task, &settings(), &OpenGate, &mut watchers)?;
     let texts = watchers.texts(alloc)?;
     Ok((ending, texts))
 }

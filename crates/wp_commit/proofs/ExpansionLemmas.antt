@@ -1,9 +1,9 @@
 -- An expansion by what is kept is the definition's expansion of each moment that the search stands for.
-use Rattle.std.proofs.Common.{◌≡◌, ◌⊎◌, ℕ, ◌+◌, ◌-◌, ◌<◌, ◌≤◌, Bool, true, false, List, [], ◌∷◌, ◌++◌, Option, Some, None, length, map, refl, sym, ap, ◌∙◌, subst, inl, inr, length-append, length-set, arith}
+use Rattle.std.proofs.Common.{◌≡◌, ◌⊎◌, ℕ, ◌+◌, ◌-◌, ◌*◌, ◌^◌, ◌<◌, ◌≤◌, List, [], ◌∷◌, ◌++◌, Option, Some, None, length, map, refl, sym, ap, ◌∙◌, subst, inl, inr, length-append, length-set, arith}
 use Rattle.std.specs.Prelude.{IfSome}
 use Rattle.std.specs.List.{All, Contains, count_by, filter, fold}
 use Rattle.std.specs.Map.{keys_of}
-use Rattle.std.proofs.lemmas.List.{length-map, map-append, get_or-append-add, get_or_append_left}
+use Rattle.std.proofs.lemmas.List.{length-map, length_push, map-append, get_or-append-add, get_or_append_left}
 use Rattle.std.proofs.lemmas.List.Elements.{All-contains, filter-append}
 use Rattle.std.proofs.lemmas.List.Sums.{count_by-le-length, length-filter, sum_by_push}
 use Rattle.wp_task.specs.Task.{PlanningTask}
@@ -13,7 +13,7 @@ use Rattle.wp_count.specs.declared.brood.Child.{Child}
 use Rattle.wp_count.specs.Broods.{children_of}
 use Rattle.wp_count.specs.Laws.{IsEvaluated, IsMarked, ChildrenAreEvaluated, mark_of, track_after}
 use Rattle.wp_watch.specs.declared.event.Event.{Event}
-use Rattle.wp_watch.specs.Sums.{born_in}
+use Rattle.wp_watch.specs.Sums.{repeats_in}
 use Rattle.wp_novel.specs.declared.birth.Pair.{Pair}
 use Rattle.wp_novel.specs.NoveltyTables.{NoveltyTables}
 use Rattle.wp_novel.specs.StandsFor.{StandsFor, last_number}
@@ -23,13 +23,12 @@ use Rattle.wp_nodes.specs.declared.kept.Kept.{Kept}
 use Rattle.wp_nodes.specs.KeptNodes.{AreLinked, HasParent, IsKept}
 use Rattle.wp_nodes.specs.Links.{along}
 use Rattle.wp_plain.specs.declared.settings.Settings.{Settings}
-use Rattle.wp_plain.specs.declared.ending.How.TheVariants.{Words}
 use Rattle.wp_plain.specs.Nodes.{Node, Path, no_path, path_at, extended, generated_in, states_kept, left}
-use Rattle.wp_plain.specs.Pairs.{all_tuples, with_pair, pairs_in, tuple_count, exceeds}
+use Rattle.wp_plain.specs.Pairs.{with_pair, pairs_in}
 use Rattle.wp_plain.specs.Expansion.{path_counters, successors_of, unseen, fresh_of, node_of, borns_of, event_of}
-use Rattle.wp_plain.specs.Run.{Moment, Outcome, expanded, expand, fresh_at, children_at, all_at, nodes_at, repeats_at}
-use Rattle.wp_plain.specs.Run.Outcome.{Goes, Ends}
-use Rattle.wp_plain.specs.Numbers.{NodesAreNumbered}
+use Rattle.wp_plain.specs.Run.{Moment, fresh_at, children_at, all_at, nodes_at, repeats_at}
+use Rattle.wp_plain.specs.Numbers.{next_of, NodesAreNumbered}
+use Rattle.wp_plain.specs.Steps.{IsBounded}
 use Rattle.wp_plain.specs.Explored.{bare, child_pair, all_numbered, track_at, ChildrenAreNumbered}
 use Rattle.wp_plain.proofs.NumberLemmas.{number_below, kept-set}
 use Rattle.wp_plain.proofs.Pigeons.{AreApart}
@@ -58,22 +57,6 @@ pub record ExpansionLaws : Type 0 where
 
 pub laws_of : ChildrenAreEvaluated → ChildrenAreNumbered → NodesAreNumbered → ExpansionLaws
 laws_of evaluated children nodes = record { evaluated = evaluated; children = children; nodes = nodes }
-
--- ---- the definition's expansion, by its test
-module _ (task : PlanningTask) (settings : Settings) (m : Moment) (node : Node) where
-  abbrev pub after : Moment
-  after = expanded m node (repeats_at task m node) (fresh_at task m node) (nodes_at task settings m node)
-
-  abbrev tested : Bool → Outcome
-  tested b = elim b as (λ _. Outcome) [ true ↦ Ends (Words (length (pairs_in (all_at task m node)))) | false ↦ Goes after ]
-
-  pub expand-ends : exceeds settings.words (length (pairs_in (all_at task m node))) (tuple_count settings.width task.atoms) ≡ true →
-      expand task settings (all_tuples task settings) m node ≡ Ends (Words (length (pairs_in (all_at task m node))))
-  expand-ends many = ap tested many
-
-  pub expand-goes : exceeds settings.words (length (pairs_in (all_at task m node))) (tuple_count settings.width task.atoms) ≡ false →
-      expand task settings (all_tuples task settings) m node ≡ Goes after
-  expand-goes few = ap tested few
 
 -- ---- kept nodes and nodes of the definition
 -- the states of the kept nodes are those of the definition
@@ -193,27 +176,44 @@ module _ (task : PlanningTask) (settings : Settings) (s : Searched) (tables : No
         ∙ (sym (length-append (keys_of tables.tables) pairs)
         ∙ (sym (length-map (keys_of tables.tables ++ pairs) counters_of) ∙ ap length (pairs-are pairs pairs_is)))
 
+    abbrev next : Moment
+    next = next_of task settings m node
+
+    pub length-nodes : length next.nodes ≡ length m.nodes + length fresh
+    length-nodes =
+        length-append (without m.nodes node) (nodes_at task settings m node)
+        ∙ (λ j. length-set m.nodes node.generated.number (left node) j + count j) where
+          count : length (nodes_at task settings m node) ≡ length fresh
+          count =
+              (law.nodes.stays task settings m node at.holds.numbers at.there).children
+              ∙ (ap length fresh-are ∙ length-map fresh bare)
+
+    -- no number and no sum reaches 2^63
+    pub numbers-fit : IsBounded settings next → settings.budget ≤ 100000000 → (repeats : ℕ) → repeats ≡ length brood - length fresh →
+        (s.numbered + length fresh < 2 ^ 63) × (s.expanded + 1 < 2 ^ 63) × (s.repeats + repeats < 2 ^ 63)
+    numbers-fit later budget repeats repeats_is =
+        let event : Event = event_of node (repeats_at task m node) (borns_of (fresh_at task m node) (nodes_at task settings m node)) in
+        let told : length next.events ≡ length m.events + 1 = length_push m.events event in
+        let sum : repeats_in next.events ≡ repeats_in m.events + repeats_at task m node = sum_by_push (λ (x : Event). x.repeats) m.events event in
+        let same : repeats_at task m node ≡ repeats = repeats-are ∙ sym repeats_is in
+        let counts = at.holds.counts in
+        let numbered : s.numbered ≡ length m.nodes = counts.numbered in
+        let expanded : s.expanded ≡ length m.events = counts.expanded in
+        let sum_is : s.repeats ≡ repeats_in m.events = counts.repeats in
+        let few : length next.events ≤ settings.budget = later.few in
+        let nodes : length next.nodes ≤ 1 + 1048576 * length next.events = later.nodes in
+        let bounded : repeats_in next.events ≤ 1048576 * length next.events = later.repeats in
+        (omega (arith, length-nodes), omega arith, omega arith)
+
     -- ---- after it
     module _ (pairs : List Pair) (words : NoveltyTables) (newborns : List Newborn) (repeats : ℕ) (later : Searched)
         (pairs_is : map counters_of (keys_of tables.tables ++ pairs) ≡ fold with_pair (map counters_of (keys_of tables.tables)) (map child_pair fresh))
         (newborns_are : newborns ≡ newborns_of settings.width all n fresh)
         (repeats_is : repeats ≡ length brood - length fresh)
-        (spare : s.expanded < settings.budget) (small : length brood ≤ 1048576) (tracked : k.mark.track < length s.nodes.tracks)
+        (tracked : k.mark.track < length s.nodes.tracks)
         (committed : IsCommitted settings number k.mark.track newborns repeats s later) where
-      abbrev next : Moment
-      next = after task settings m node
-
       abbrev more : List Path
       more = map (extended path) (fresh_at task m node)
-
-      length-nodes : length next.nodes ≡ length m.nodes + length fresh
-      length-nodes =
-          length-append (without m.nodes node) (nodes_at task settings m node)
-          ∙ (λ j. length-set m.nodes node.generated.number (left node) j + count j) where
-            count : length (nodes_at task settings m node) ≡ length fresh
-            count =
-                (law.nodes.stays task settings m node at.holds.numbers at.there).children
-                ∙ (ap length fresh-are ∙ length-map fresh bare)
 
       nodes-later : map shown_kept later.nodes.kept ≡ map shown (filter (λ x. x.kept) next.nodes)
       nodes-later =
@@ -292,26 +292,16 @@ module _ (task : PlanningTask) (settings : Settings) (s : Searched) (tables : No
       count-newborns : length newborns ≡ length fresh
       count-newborns = ap length newborns_are ∙ length-newborns settings.width all n fresh
 
-      few-fresh : length fresh ≤ length brood
-      few-fresh = subst (λ l. length l ≤ length brood) (sym fresh_is) (unseen-few (λ c. c.state) (map (λ x. x.state) s.nodes.kept) brood)
-
-      counts-later : AreCounted settings later next
+      counts-later : AreCounted later next
       counts-later =
           let old = at.holds.counts in
           let event : Event = event_of node (repeats_at task m node) (borns_of (fresh_at task m node) (nodes_at task settings m node)) in
           let repeats_now : event.repeats ≡ repeats = repeats-are ∙ sym repeats_is in
-          let born_now : length event.born ≡ length newborns =
-          ap (λ (e : Event). length e.born) (sym (event-is newborns repeats newborns_are repeats_is)) ∙ length-map newborns (born_as settings) in
-          let born_then : born_in next.events ≡ born_in m.events + length event.born = sum_by_push (λ (x : Event). length x.born) m.events event in
           record {
             numbered = omega (arith, committed.numbered, count-newborns, old.numbered, length-nodes);
             kept = omega (arith, committed.kept, old.kept);
             expanded = committed.expanded ∙ (ap (λ i. i + 1) old.expanded ∙ sym (length-append m.events (event ∷ [])));
             repeats = committed.repeats_are ∙ ((λ j. old.repeats j + sym repeats_now j) ∙ sym (sum_by_push (λ x. x.repeats) m.events event));
-            few = omega (arith, committed.expanded);
-            born = omega (arith, committed.numbered, committed.expanded, count-newborns, few-fresh, old.born);
-            bounded = omega (arith, committed.repeats_are, committed.expanded, repeats_is, old.bounded);
-            births = omega (arith, born_then, born_now, count-newborns, old.births, length-nodes);
           }
 
       pub holds-next : StandsFor words (map birth_of all) → keys_of words.tables ≡ keys_of tables.tables ++ pairs →
@@ -347,18 +337,12 @@ pub record IsEvaluatedAt (task : PlanningTask) (s : Searched) (tables : NoveltyT
 
 module _ (task : PlanningTask) (settings : Settings) (s : Searched) (tables : NoveltyTables) (number : ℕ) (k : Kept) (brood fresh : List Child) (pairs : List Pair)
     (ev : IsEvaluatedAt task s tables number k brood fresh pairs) (m : Moment) (node : Node) (at : IsTakenAt task settings s tables m node number) where
-  needed-length : length tables.tables + length pairs ≡ length (pairs_in (all_at task m node))
+  pub needed-length : length tables.tables + length pairs ≡ length (pairs_in (all_at task m node))
   needed-length =
       needed-is task settings s tables m node number at ev.linked k ev.there ev.named ev.law brood fresh ev.brood_is ev.fresh_is pairs ev.pairs_is
 
   all-at-are : all_at task m node ≡ generated_in m.nodes ++ all_numbered (length m.nodes) fresh
   all-at-are = all-are task settings s tables m node number at ev.linked k ev.there ev.named ev.law brood fresh ev.brood_is ev.fresh_is
-
-  pub words-end : exceeds settings.words (length tables.tables + length pairs) (tuple_count settings.width task.atoms) ≡ true →
-      expand task settings (all_tuples task settings) m node ≡ Ends (Words (length tables.tables + length pairs))
-  words-end many =
-      expand-ends task settings m node (ap (λ i. exceeds settings.words i (tuple_count settings.width task.atoms)) (sym needed-length) ∙ many)
-      ∙ ap (λ (i : ℕ). Ends (Words i)) (sym needed-length)
 
   pub needed-few : length tables.tables + length pairs ≤ s.numbered + length fresh
   needed-few =
@@ -408,34 +392,36 @@ module _ (task : PlanningTask) (settings : Settings) (s : Searched) (tables : No
       (subst (λ l. AreApart (map (λ (c : Child). c.state) l)) (sym ev.fresh_is) (unseen-apart (λ (c : Child). c.state) seen brood))
       (λ state there old. unseen-new (λ (c : Child). c.state) seen brood state (subst (λ l. In state (map (λ (c : Child). c.state) l)) ev.fresh_is there) old))
 
-  pub goes : (words : NoveltyTables) (newborns : List Newborn) (repeats : ℕ) (later : Searched) →
-      exceeds settings.words (length tables.tables + length pairs) (tuple_count settings.width task.atoms) ≡ false →
+  pub fits : IsBounded settings (next_of task settings m node) → settings.budget ≤ 100000000 → (repeats : ℕ) → repeats ≡ length brood - length fresh →
+      (s.numbered + length fresh < 2 ^ 63) × (s.expanded + 1 < 2 ^ 63) × (s.repeats + repeats < 2 ^ 63)
+  fits = numbers-fit task settings s tables m node number at ev.linked k ev.there ev.named ev.law brood fresh ev.brood_is ev.fresh_is
+
+  -- what is told of it
+  pub event-for : (newborns : List Newborn) (repeats : ℕ) →
       newborns ≡ newborns_of settings.width (generated_in m.nodes ++ all_numbered (length m.nodes) fresh) (length m.nodes) fresh →
-      repeats ≡ length brood - length fresh → s.expanded < settings.budget → length brood ≤ 1048576 →
-      IsCommitted settings number k.mark.track newborns repeats s later →
+      repeats ≡ length brood - length fresh →
+      event_as settings k repeats newborns ≡ event_of node (repeats_at task m node) (borns_of (fresh_at task m node) (nodes_at task settings m node))
+  event-for = event-is task settings s tables m node number at ev.linked k ev.there ev.named ev.law brood fresh ev.brood_is ev.fresh_is
+
+  -- the search stands for the next moment
+  pub goes : (words : NoveltyTables) (newborns : List Newborn) (repeats : ℕ) (later : Searched) →
+      newborns ≡ newborns_of settings.width (generated_in m.nodes ++ all_numbered (length m.nodes) fresh) (length m.nodes) fresh →
+      repeats ≡ length brood - length fresh → IsCommitted settings number k.mark.track newborns repeats s later →
       StandsFor words (map birth_of (generated_in m.nodes ++ all_numbered (length m.nodes) fresh)) → keys_of words.tables ≡ keys_of tables.tables ++ pairs →
-      words.index ≡ tables.index → words.limit ≡ tables.limit →
-      (next : Moment) × StandsAt task settings later words next × (expand task settings (all_tuples task settings) m node ≡ Goes next)
-      × (next.events ≡ m.events ++ event_as settings k repeats newborns ∷ [])
-  goes words newborns repeats later few newborns_are repeats_is spare small committed births keys words_index limit =
+      words.index ≡ tables.index → words.limit ≡ tables.limit → StandsAt task settings later words (next_of task settings m node)
+  goes words newborns repeats later newborns_are repeats_is committed births keys words_index limit =
       let n = length m.nodes in
       let all = generated_in m.nodes ++ all_numbered n fresh in
-      let holds = holds-next task settings s tables m node number at ev.linked k ev.there ev.named ev.law brood fresh ev.brood_is ev.fresh_is
-      pairs words newborns repeats later ev.pairs_is newborns_are repeats_is spare small ev.tracked committed births keys words_index limit in
       let earlier = without m.nodes node in
       let queued : AreQueued s.queue (waiting_of settings (newborns_of settings.width all n fresh)) later.queue =
       subst (λ l. AreQueued s.queue (waiting_of settings l) later.queue) newborns_are committed.queue in
-      let waits : AreWaiting later.queue (earlier ++ nodes_at task settings m node) =
-      subst (λ l. AreWaiting later.queue (earlier ++ l))
-      (sym (nodes-are task settings s tables m node number at ev.linked k ev.there ev.named ev.law brood fresh ev.brood_is ev.fresh_is))
-      (waiting-later settings all n fresh earlier s.queue later.queue at.waiting queued) in
-      let stands : StandsAt task settings later words (after task settings m node) = record { holds = holds; waiting = waits } in (
-        after task settings m node,
-        stands,
-        expand-goes task settings m node (ap (λ i. exceeds settings.words i (tuple_count settings.width task.atoms)) (sym needed-length) ∙ few),
-        ap (λ e. m.events ++ e ∷ []) (sym (event-is task settings s tables m node number at ev.linked k ev.there ev.named ev.law brood fresh ev.brood_is ev.fresh_is
-            newborns repeats newborns_are repeats_is)),
-      )
+      record {
+        holds = holds-next task settings s tables m node number at ev.linked k ev.there ev.named ev.law brood fresh ev.brood_is ev.fresh_is
+            pairs words newborns repeats later ev.pairs_is newborns_are repeats_is ev.tracked committed births keys words_index limit;
+        waiting = subst (λ l. AreWaiting later.queue (earlier ++ l))
+            (sym (nodes-are task settings s tables m node number at ev.linked k ev.there ev.named ev.law brood fresh ev.brood_is ev.fresh_is))
+            (waiting-later settings all n fresh earlier s.queue later.queue at.waiting queued);
+      }
 
 -- an expansion that was evaluated is such a one
 pub in_hand : (task : PlanningTask) (s : Searched) (tables : NoveltyTables) (number : ℕ) (x : Expansion) → ExpansionLaws →

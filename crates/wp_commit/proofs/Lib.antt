@@ -7,7 +7,6 @@ pub mod KeepLemmas
 pub mod NewbornLemmas
 pub mod PairLemmas
 pub mod RootLemmas
-pub mod StepLemmas
 pub mod TakeLemmas
 pub mod TellingLemmas
 pub mod UnseenLemmas

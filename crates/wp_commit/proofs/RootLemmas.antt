@@ -135,10 +135,6 @@ module _ (task : PlanningTask) (settings : Settings) (counts : MarksCount) (tabl
         kept = sym (ap (λ n. length n.kept) alone.nodes_are);
         expanded = refl;
         repeats = refl;
-        few = omega arith;
-        born = omega arith;
-        bounded = omega arith;
-        births = refl;
       };
     };
     waiting = root_waits;

@@ -1,8 +1,9 @@
 -- The first node of the open list is the first waiting node of the moment, and it is kept.
 use Rattle.std.proofs.Common.{◌≡◌, ◌≢◌, ◌⊎◌, ◌==◌, ◌&&◌, ◌||◌, ◌<◌, ◌+◌, ℕ, zero, suc, nat_lt, Bool, true, false, List, [], ◌∷◌, Option, Some, None, length, map, get_or, set, filter, refl, sym, ap, ◌∙◌, subst, inl, inr, arith}
-use Rattle.std.specs.Prelude.{MatchOption, Contains}
+use Rattle.std.specs.Prelude.{MatchOption, Contains, IfSome, IfNone}
 use Rattle.std.proofs.lemmas.Bool.{both_ways}
 use Rattle.std.proofs.lemmas.Bool.Decides.{nat_tests}
+use Rattle.std.proofs.lemmas.List.Elements.{All-contains_itself, All-weaker}
 use Rattle.wp_task.specs.Task.{PlanningTask}
 use Rattle.wp_task.specs.Novelty.{Generated}
 use Rattle.wp_task.proofs.Members.{In, In-from_Contains, Contains-from_In, In-map, In-map_cases, In-filter, In-filter_cases}
@@ -10,13 +11,16 @@ use Rattle.wp_novel.specs.NoveltyTables.{NoveltyTables}
 use Rattle.wp_queue.specs.declared.queue.Waiting.{Waiting}
 use Rattle.wp_queue.specs.OpenList.{waiting, IsBefore, IsTaken}
 use Rattle.wp_nodes.specs.declared.kept.Kept.{Kept}
+use Rattle.wp_nodes.specs.KeptNodes.{Keeping}
+use Rattle.wp_nodes.specs.Links.{along, FollowLinks}
 use Rattle.wp_plain.specs.declared.settings.Settings.{Settings}
 use Rattle.wp_plain.specs.Nodes.{FirstIsLeast, Node, comes_before, first_waiting, IsFirst, left}
 use Rattle.wp_plain.specs.Run.{Moment}
 use Rattle.wp_plain.specs.Numbers.{CountUp}
+use Rattle.wp_plain.specs.Steps.{HasTakenFirst}
 use Rattle.wp_plain.proofs.NumberLemmas.{number_below, one_node, node_there, CountUp-set, In-set_cases}
 use Rattle.wp_commit.specs.declared.searched.Searched.{Searched}
-use Rattle.wp_commit.specs.Searched.{shown_kept, shown, IsWaiting, AreWaiting, HoldsAt, StandsAt, IsTakenAt, without}
+use Rattle.wp_commit.specs.Searched.{shown_kept, shown, plans_in, AreKept, IsWaiting, AreWaiting, HoldsAt, StandsAt, IsTakenAt, without}
 use Rattle.wp_commit.proofs.NewbornLemmas.{waiting_node}
 
 -- ---- a list in which one item is replaced
@@ -150,10 +154,6 @@ module _ (task : PlanningTask) (settings : Settings) (s : Searched) (tables : No
       kept = holds.counts.kept;
       expanded = holds.counts.expanded;
       repeats = holds.counts.repeats;
-      few = holds.counts.few;
-      born = holds.counts.born;
-      bounded = holds.counts.bounded;
-      births = holds.counts.births;
     };
   }
 
@@ -176,6 +176,16 @@ module _ (task : PlanningTask) (settings : Settings) (s : Searched) (tables : No
           named = found.named;
         };
       }
+
+  -- so it is with what the open list answers
+  pub takes-first : {X : Type 0} → X → FirstIsLeast → (new : List Waiting) (result : Option ℕ) → StandsAt task settings s tables m →
+      IfSome result (IsTaken s.queue new) → IfNone result ((s.queue ≡ []) × (new ≡ [])) →
+      HasTakenFirst (λ n. X × HoldsAt task settings (record s { queue = new }) tables n)
+      (λ n node number. X × IsTakenAt task settings (record s { queue = new }) tables n node number) m result
+  takes-first x least new None stands taken empty =
+      (none_taken least m.nodes s.queue stands.waiting empty.0, (x, HoldsAt-queue new stands.holds))
+  takes-first x least new (Some number) stands taken empty =
+      let found = taken_first least new number stands taken in (found.node, found.first, (x, found.taken))
 
 -- ---- kept nodes of a moment
 module _ (task : PlanningTask) (settings : Settings) (s : Searched) (tables : NoveltyTables) (m : Moment) (holds : HoldsAt task settings s tables m) where
@@ -206,3 +216,10 @@ module _ (task : PlanningTask) (settings : Settings) (s : Searched) (tables : No
       ap (λ (p : Generated × ℕ). p.0.number) (sym found.3) ∙ number in
       found.3
       ∙ ap shown (one_node 0 m.nodes holds.numbers.numbers found.0 node (In-from_Contains found.0 m.nodes found.1) (In-from_Contains node m.nodes there) same)
+
+-- ---- plans
+-- the plans of a moment follow the links of the kept nodes
+pub plans-follow : (task : PlanningTask) (nodes : Keeping) (m : Moment) → AreKept task nodes m → FollowLinks nodes.kept (plans_in m.paths)
+plans-follow task nodes m are =
+    All-weaker (Contains nodes.kept) (λ (k : Kept). plans_in m.paths k.number ≡ along (plans_in m.paths) k.back)
+    (λ k there. (are.on_paths k there).acts) nodes.kept (All-contains_itself nodes.kept)

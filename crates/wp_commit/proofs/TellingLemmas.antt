@@ -1,24 +1,16 @@
--- An expansion as it is told: its event is that of the definition, and watchers can be told it.
-use Rattle.std.proofs.Common.{◌≡◌, ℕ, ◌+◌, ◌<◌, ◌^◌, List, [], ◌∷◌, ◌++◌, length, map, refl, sym, ap, ◌∙◌, subst, arith}
-use Rattle.std.specs.Prelude.{All}
-use Rattle.std.proofs.lemmas.List.{length-map}
-use Rattle.wp_task.specs.Task.{PlanningTask}
+-- An expansion as it is told: its event is that of the definition.
+use Rattle.std.proofs.Common.{◌≡◌, ℕ, ◌+◌, List, [], ◌∷◌, map, refl, ap, ◌∙◌}
 use Rattle.wp_task.specs.Novelty.{Generated, novelty_of}
 use Rattle.wp_count.specs.declared.brood.Child.{Child}
 use Rattle.wp_watch.specs.declared.event.Event.{Event}
-use Rattle.wp_watch.specs.Laws.{OneMoreIsTold, OneMoreCanBeTold}
-use Rattle.wp_watch.specs.Places.{Place, CanTellPlace, told_place, AreAfter}
-use Rattle.wp_novel.specs.NoveltyTables.{NoveltyTables}
 use Rattle.wp_nodes.specs.declared.kept.Kept.{Kept}
 use Rattle.wp_plain.specs.declared.settings.Settings.{Settings}
 use Rattle.wp_plain.specs.Nodes.{Node}
 use Rattle.wp_plain.specs.Expansion.{node_of, borns_of, event_of}
 use Rattle.wp_plain.specs.Explored.{bare, numbered, all_numbered}
-use Rattle.wp_plain.specs.Run.{Moment}
 use Rattle.wp_commit.specs.declared.newborn.Newborn.{Newborn}
-use Rattle.wp_commit.specs.declared.searched.Searched.{Searched}
 use Rattle.wp_commit.specs.Newborns.{newborns_of, born_as, event_as}
-use Rattle.wp_commit.specs.Searched.{shown_kept, shown, HoldsAt, AreAfterFor, AreTold}
+use Rattle.wp_commit.specs.Searched.{shown_kept, shown}
 
 borns-told : (settings : Settings) (all : List Generated) (n : ℕ) (fresh : List Child) →
     map (born_as settings) (newborns_of settings.width all n fresh) ≡ borns_of (map bare fresh) (map (node_of settings all) (all_numbered n fresh))
@@ -41,19 +33,3 @@ event-told settings k node repeats n all newborns fresh same newborns_are =
       repeats = repeats;
       born = born j;
     } in event)
-
--- watchers that were told one more event stand after it
-pub told-more : OneMoreIsTold → (events more : List Event) (event : Event) (places told : List Place) → more ≡ events ++ event ∷ [] →
-    told ≡ map (told_place event) places → AreTold events more places told
-told-more law events more event places told more_is told_is list after =
-    subst (λ es. AreAfter list es told) (sym more_is)
-    (subst (AreAfter list (events ++ event ∷ [])) (sym told_is) (law list events places event after))
-
--- watchers that were told the events of a moment can be told one more while the counts stay small
-pub can-tell : OneMoreCanBeTold → (task : PlanningTask) (settings : Settings) (s : Searched) (tables : NoveltyTables) (m : Moment) (places : List Place) →
-    HoldsAt task settings s tables m → AreAfterFor m.events places → (k : Kept) (repeats : ℕ) (newborns : List Newborn) →
-    s.repeats + repeats < 2 ^ 63 → s.numbered + length newborns < 2 ^ 63 → All (CanTellPlace (event_as settings k repeats newborns)) places
-can-tell law task settings s tables m places holds told k repeats newborns few_repeats few_born =
-    law told.0 m.events places (event_as settings k repeats newborns) told.1
-    (omega (arith, holds.counts.repeats))
-    (omega (arith, holds.counts.births, holds.counts.numbered, length-map newborns (born_as settings)))

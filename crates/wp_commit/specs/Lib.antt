@@ -1,4 +1,3 @@
-pub mod Asked
 pub mod Expansions
 pub mod Newborns
 pub mod Searched

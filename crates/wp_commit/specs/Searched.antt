@@ -10,9 +10,6 @@ use Rattle.wp_count.specs.declared.brood.Child.{Child}
 use Rattle.wp_count.specs.Broods.{children_of}
 use Rattle.wp_count.specs.Laws.{IsMarked}
 use Rattle.wp_watch.specs.declared.event.Event.{Event}
-use Rattle.wp_watch.specs.declared.watch.WatchKind.{WatchKind}
-use Rattle.wp_watch.specs.Sums.{born_in}
-use Rattle.wp_watch.specs.Places.{Place, AreAfter}
 use Rattle.wp_novel.specs.NoveltyTables.{NoveltyTables}
 use Rattle.wp_novel.specs.StandsFor.{StandsFor}
 use Rattle.wp_queue.specs.declared.queue.Waiting.{Waiting}
@@ -22,12 +19,11 @@ use Rattle.wp_nodes.specs.KeptNodes.{Keeping, node_of}
 use Rattle.wp_nodes.specs.Links.{along}
 use Rattle.wp_plain.specs.declared.settings.Settings.{Settings}
 use Rattle.wp_plain.specs.declared.ending.Counts.{Counts}
-use Rattle.wp_plain.specs.declared.ending.How.{How}
 use Rattle.wp_plain.specs.Nodes.{Node, Path, path_at, generated_in}
 use Rattle.wp_plain.specs.Pairs.{all_tuples, pairs_in, tuple_count, exceeds}
-use Rattle.wp_plain.specs.Run.{Moment, Outcome, counts_of, run_from, run}
-use Rattle.wp_plain.specs.Run.Outcome.{Goes, Ends}
+use Rattle.wp_plain.specs.Run.{Moment, counts_of, run}
 use Rattle.wp_plain.specs.Explored.{track_at}
+use Rattle.wp_plain.specs.Steps.{Asked}
 use Rattle.wp_plain.specs.Numbers.{IsNumbered}
 use Rattle.wp_commit.specs.declared.searched.Searched.{Searched}
 use Rattle.wp_commit.specs.Newborns.{birth_of, counters_of}
@@ -83,15 +79,11 @@ pub record AreTables (task : PlanningTask) (settings : Settings) (tables : Novel
   pub pairs : map counters_of (keys_of tables.tables) ≡ pairs_in (generated_in nodes)
 
 -- ---- counts
-pub record AreCounted (settings : Settings) (s : Searched) (m : Moment) : Type 0 where
+pub record AreCounted (s : Searched) (m : Moment) : Type 0 where
   pub numbered : s.numbered ≡ length m.nodes
   pub kept : s.kept ≡ length s.nodes.kept
   pub expanded : s.expanded ≡ length m.events
   pub repeats : s.repeats ≡ sum_by (λ event. event.repeats) m.events
-  pub few : s.expanded ≤ settings.budget
-  pub born : s.numbered ≤ 1 + 1048576 * s.expanded
-  pub bounded : s.repeats ≤ 1048576 * s.expanded
-  pub births : born_in m.events + 1 ≡ length m.nodes
 
 -- ---- moments
 -- the search stands for a moment but for what waits
@@ -99,7 +91,7 @@ pub record HoldsAt (task : PlanningTask) (settings : Settings) (s : Searched) (t
   pub numbers : IsNumbered m
   pub nodes : AreKept task s.nodes m
   pub words : AreTables task settings tables m.nodes
-  pub counts : AreCounted settings s m
+  pub counts : AreCounted s m
 
 -- the search stands for a moment
 pub record StandsAt (task : PlanningTask) (settings : Settings) (s : Searched) (tables : NoveltyTables) (m : Moment) : Type 0 where
@@ -118,63 +110,17 @@ pub record IsTakenAt (task : PlanningTask) (settings : Settings) (s : Searched) 
   pub kept : node.kept ≡ true
   pub named : node.generated.number ≡ number
 
--- ---- watchers
--- the places are those of some watchers after these events
-abbrev pub AreAfterFor : List Event → List Place → Type 0
-AreAfterFor events places = (list : List (WatchKind × Option ℕ)) × AreAfter list events places
+-- ---- what a call may ask
+-- what a run needs throughout was made for what is asked, and all tuples are counted
+pub record IsRunOf (run asked : Asked) : Type 0 where
+  pub same : run ≡ asked
+  pub all : run.tuples ≡ all_tuples run.task run.settings
 
--- watchers whose places were after the events of a moment are after those of a later one
-abbrev pub AreTold : List Event → List Event → List Place → List Place → Type 0
-AreTold events more places later = (list : List (WatchKind × Option ℕ)) → AreAfter list events places → AreAfter list more later
-
--- ---- how far a search is
--- what it keeps, its tables, and where its watchers stand
-pub record Progress : Type 0 where
-  pub searched : Searched
-  pub tables : NoveltyTables
-  pub places : List Place
-
-abbrev pub progress : Searched → NoveltyTables → List Place → Progress
-progress s tables places = record { searched = s; tables = tables; places = places }
-
--- ---- what a step may ask
 abbrev pub HoldsAtSome : PlanningTask → Settings → Searched → NoveltyTables → Type 0
 HoldsAtSome task settings s tables = (m : Moment) × HoldsAt task settings s tables m
 
--- the watchers were told the events of a moment that the search stands for
-abbrev pub StandsAtSome : PlanningTask → Settings → Progress → Type 0
-StandsAtSome task settings p = (m : Moment) × StandsAt task settings p.searched p.tables m × AreAfterFor m.events p.places
-
 abbrev pub IsTakenAtSome : PlanningTask → Settings → Searched → NoveltyTables → ℕ → Type 0
 IsTakenAtSome task settings s tables number = (m : Moment) × (node : Node) × IsTakenAt task settings s tables m node number
-
--- the same, and the watchers were told the events of that moment
-abbrev pub IsTakenAndTold : PlanningTask → Settings → Progress → ℕ → Type 0
-IsTakenAndTold task settings p number =
-    (m : Moment) × (node : Node) × IsTakenAt task settings p.searched p.tables m node number × AreAfterFor m.events p.places
-
--- ---- steps
--- a step from a moment: it goes on to a moment that the search then stands for, and is told; or it ends and the moment stays
-abbrev pub Steps : PlanningTask → Settings → Outcome → Moment → List Place → Progress → Option How → Type 0
-Steps task settings outcome m places later how = MatchOption how
-    ((next : Moment) × StandsAt task settings later.searched later.tables next × (outcome ≡ Goes next) × AreTold m.events next.events places later.places)
-    (λ end. HoldsAt task settings later.searched later.tables m × (outcome ≡ Ends end) × (later.places ≡ places))
-
--- the same, from each moment that the search stands for
-abbrev pub StepsFrom : PlanningTask → Settings → (Moment → Outcome) → Progress → Progress → Option How → Type 0
-StepsFrom task settings outcome before later how = (m : Moment) →
-    StandsAt task settings before.searched before.tables m → Steps task settings (outcome m) m before.places later how
-
--- the same, where a node was taken
-abbrev pub StepsAt : PlanningTask → Settings → (Moment → Node → Outcome) → ℕ → Progress → Progress → Option How → Type 0
-StepsAt task settings outcome number before later how = (m : Moment) (node : Node) →
-    IsTakenAt task settings before.searched before.tables m node number → Steps task settings (outcome m node) m before.places later how
-
--- all the steps from each moment that the search stands for
-abbrev pub RunsFrom : PlanningTask → Settings → Progress → Progress → How → Type 0
-RunsFrom task settings before later how = (m : Moment) → StandsAt task settings before.searched before.tables m →
-    (end : Moment) × HoldsAt task settings later.searched later.tables end × (run_from task settings (all_tuples task settings) (settings.budget + 1) m ≡ (how, end))
-    × AreTold m.events end.events before.places later.places
 
 -- the counts are those of each moment that the search stands for
 abbrev pub AreCountsOf : PlanningTask → Settings → Searched → NoveltyTables → Counts → Type 0

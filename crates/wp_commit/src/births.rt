@@ -40,8 +40,8 @@ pub(crate) struct Rest {
 
 /// Opens the pairs of an expansion, which are within the limit of words, numbers its children, enters them into the tables, and
 /// reads their novelties. Where memory is refused the tables are spent.
-pub(crate) fn enter(
-    run: &Run,
+pub(crate) fn enter<R, G>(
+    run: &Run<R, G>,
     searched: &Searched,
     tables: &mut Tables,
     number: u64,
@@ -49,7 +49,7 @@ pub(crate) fn enter(
 ) -> Result<Numbered, AllocError>
     requires taken { IsTakenAtSome run.now.task run.now.settings searched.now tables.old number }
     requires evaluated { IsExpansionOf run.now.task searched.now tables.old number expansion }
-    requires spare { searched.now.expanded < run.now.settings.budget }
+    requires numbers { searched.now.numbered + length expansion.fresh.items < 2 ^ 63 }
     requires few { exceeds run.now.settings.words (length tables.old.tables + length expansion.pairs.items) (tuple_count run.now.settings.width run.now.task.atoms) ≡ false }
     ensures { IfOk result (IsEnteredOf run.now.task run.now.settings searched.now tables.old number expansion tables.new) }
 {

@@ -16,6 +16,7 @@ mod pairs;
 mod root;
 mod run;
 mod searched;
+mod store;
 mod telling;
 mod unseen;
 

@@ -4,39 +4,59 @@ ghost use Rattle.std.specs.Map.{keys_of};
 ghost use Rattle.wp_task.specs.Novelty.{novelty_of};
 ghost use Rattle.wp_tuples.specs.TuplePlaces.{tuples_of};
 ghost use Rattle.wp_novel.specs.StandsFor.{generated_of, StandsFor};
-ghost use Rattle.wp_plain.specs.Ranges.{AreInRange};
 ghost use Rattle.wp_plain.specs.Pairs.{tuple_count, exceeds};
 ghost use Rattle.wp_plain.specs.Run.{opening};
 ghost use Rattle.wp_commit.specs.Searched.{StandsAt};
 
 use crate::pairs::open;
+use crate::run::Run;
 use crate::searched::Searched;
+use crate::store::Store;
 use std::alloc::{AllocError, Global};
-use wp_count::{counters_are_carried, root_of};
+use std::thread::Threads;
+use wp_count::counters_are_carried;
+use wp_edge::Gate;
 use wp_nodes::{Kept, Nodes};
 use wp_novel::{Birth, Births, Pair, Tables};
-use wp_plain::Settings;
 use wp_queue::Queue;
-use wp_task::Task;
 
 /// The root, entered into tables that are empty, kept and waiting.
-pub(crate) fn opening(
-    alloc: Global,
+pub(crate) fn opening<R: Threads + Sync, G: Gate>(
+    run: Run<R, G>,
+    tables: Tables,
+) -> Result<Store<R, G>, AllocError>
+    requires index { tables.index ≡ record { atoms = run.task.atoms; width = run.settings.width } }
+    requires limit { tables.limit ≡ run.settings.words }
+    requires empty { tables.tables ≡ [] }
+    requires collected { tables.last ≡ None }
+    requires few { exceeds run.settings.words 1 (tuple_count run.settings.width run.task.atoms) ≡ false }
+    ensures { IfOk result (λ store. StandsAt run.entry.task run.entry.settings store.searched store.tables (opening run.entry.task run.entry.settings) × (store.run ≡ run.entry)) }
+{
+    let mut tables = tables;
+    let searched = root_of(&run, &mut tables)?;
+    Ok(Store {
+        run,
+        searched,
+        tables,
+    })
+}
+
+/// The root alone, over these tables.
+fn root_of<R: Threads + Sync, G: Gate>(
+    run: &Run<R, G>,
     tables: &mut Tables,
-    task: &Task,
-    settings: &Settings,
 ) -> Result<Searched, AllocError>
-    requires range { AreInRange settings.now }
-    requires index { tables.old.index ≡ record { atoms = task.now.atoms; width = settings.now.width } }
-    requires limit { tables.old.limit ≡ settings.now.words }
+    requires index { tables.old.index ≡ record { atoms = run.now.task.atoms; width = run.now.settings.width } }
+    requires limit { tables.old.limit ≡ run.now.settings.words }
     requires empty { tables.old.tables ≡ [] }
     requires collected { tables.old.last ≡ None }
-    requires few { exceeds settings.now.words 1 (tuple_count settings.now.width task.now.atoms) ≡ false }
-    ensures { IfOk result (λ searched. StandsAt task.now settings.now searched tables.new (opening task.now settings.now)) }
+    requires few { exceeds run.now.settings.words 1 (tuple_count run.now.settings.width run.now.task.atoms) ≡ false }
+    ensures { IfOk result (λ searched. StandsAt run.now.task run.now.settings searched tables.new (opening run.now.task run.now.settings)) }
 {
     // The law of the counters: what is kept of a node gives those of its whole path.
     counters_are_carried();
-    let (state, mark, track) = root_of(alloc, task)?;
+    let alloc = run.alloc;
+    let (state, mark, track) = wp_count::root_of(alloc, run.task)?;
     let g = mark.g;
     let copy = state.copy(alloc)?;
     let root = Birth::of(alloc, 0, Pair { g, r: mark.r }, copy)?;

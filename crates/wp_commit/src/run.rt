@@ -1,17 +1,23 @@
 //! What a run needs throughout.
 ghost use Rattle.std.specs.Prelude.{◌≡◌, IfOk};
+ghost use Rattle.wp_plain.specs.Pairs.{all_tuples};
 ghost use Rattle.wp_plain.specs.Ranges.{AreInRange};
 
 use std::alloc::{AllocError, Global};
 use std::marker::Model;
+use std::thread::Threads;
+use wp_edge::Gate;
 use wp_plain::Settings;
 use wp_relax::Workspace;
 use wp_succ::Plain;
 use wp_task::Task;
 
-/// What a run needs throughout, made once: callers see the task and the settings, which are in range.
+/// What a run needs throughout, made once: the threads that its jobs may be run by and the gate that they pass, memory, and what
+/// it was asked for. Callers see the task, the settings, which are in range, and the number of all tuples.
 #[derive(Drop)]
-pub(crate) struct Run<'a> {
+pub(crate) struct Run<'a, R, G> {
+    pub rt: &'a R,
+    pub gate: &'a G,
     pub alloc: Global,
     pub task: &'a Task,
     pub settings: Settings,
@@ -19,31 +25,36 @@ pub(crate) struct Run<'a> {
     pub work: Workspace,
 }
 
-impl<'a> Model for Run<'a> {
+impl<'a, R, G> Model for Run<'a, R, G> {
     ghost use Rattle.std.specs.Prelude.{◌≡◌};
     ghost use Rattle.wp_relax.specs.Workspace.{room_for};
+    ghost use Rattle.wp_plain.specs.Pairs.{all_tuples};
     ghost use Rattle.wp_plain.specs.Ranges.{AreInRange};
-    ghost use Rattle.wp_commit.specs.Asked.{Asked};
+    ghost use Rattle.wp_plain.specs.Steps.{Asked};
 
     ghost Value = { Asked };
 
-    ghost view = { λ r. record { task = r.task.now; settings = r.settings } };
+    ghost view = { λ r. record { task = r.task.now; settings = r.settings; tuples = all_tuples r.task.now r.settings } };
 
     ghost invariant = { λ r. AreInRange r.settings × (r.work ≡ room_for r.task.now) };
 }
 
-impl<'a> Run<'a> {
+impl<'a, R: Threads + Sync, G: Gate> Run<'a, R, G> {
     pub(crate) fn of(
+        rt: &'a R,
+        gate: &'a G,
         alloc: Global,
         task: &'a Task,
         settings: Settings,
-    ) -> Result<Run<'a>, AllocError>
+    ) -> Result<Run<'a, R, G>, AllocError>
         requires { AreInRange settings }
-        ensures { IfOk result (λ run. run ≡ record { task = task.now; settings = settings }) }
+        ensures { IfOk result (λ run. run ≡ record { task = task.now; settings = settings; tuples = all_tuples task.now settings }) }
     {
         let succ = Plain::of(task);
         let work = Workspace::of(alloc, task)?;
         Ok(Run {
+            rt,
+            gate,
             alloc,
             task,
             settings,

@@ -1,7 +1,5 @@
-//! What is told of an expansion, and to whom.
-ghost use Rattle.std.specs.Prelude.{◌≡◌, All, map, IfOk, OnOk};
-ghost use Rattle.wp_watch.specs.Places.{CanTellPlace, told_place};
-ghost use Rattle.wp_plain.specs.Places.{places_in};
+//! What is told of an expansion.
+ghost use Rattle.std.specs.Prelude.{◌≡◌, false, map, IfOk, MatchOption};
 ghost use Rattle.wp_commit.specs.Newborns.{born_as, event_as};
 
 use crate::births::Numbered;
@@ -10,25 +8,23 @@ use crate::run::Run;
 use std::alloc::{AllocError, Global};
 use wp_nodes::Kept;
 use wp_plain::{Settings, keeps};
-use wp_watch::{Born, Borns, Event, Watchers};
+use wp_watch::{Born, Borns, Event};
 
-/// Tells the expansion of a node, with its newborns. Where nobody watches no event is made. After want of memory the
-/// watchers are only good for being dropped.
-pub(crate) fn tell_expansion(
-    run: &Run,
+/// What is told of the expansion of a node, with its newborns, where that is wanted.
+pub(crate) fn told_of<R, G>(
+    run: &Run<R, G>,
     node: &Kept,
     numbered: &Numbered,
-    watchers: &mut Watchers,
-) -> Result<(), AllocError>
-    requires { All (CanTellPlace (event_as run.now.settings node.now numbered.now.repeats numbered.now.newborns.items)) (places_in kind until told watchers.old) }
-    ensures { OnOk result (places_in kind until told watchers.new
-        ≡ map (told_place (event_as run.now.settings node.now numbered.now.repeats numbered.now.newborns.items)) (places_in kind until told watchers.old)) }
+    wanted: bool,
+) -> Result<Option<Event>, AllocError>
+    ensures { IfOk result (λ told. MatchOption told (wanted ≡ false)
+        (λ event. event ≡ event_as run.now.settings node.now numbered.now.repeats numbered.now.newborns.items)) }
 {
-    if watchers.slots.is_empty() {
-        return Ok(());
+    if !wanted {
+        return Ok(None);
     }
     let event = event_of(run.alloc, &run.settings, node, numbered)?;
-    watchers.tell(&event)
+    Ok(Some(event))
 }
 
 fn event_of(

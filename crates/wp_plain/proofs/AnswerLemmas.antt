@@ -8,10 +8,8 @@ use Rattle.wp_plain.specs.declared.settings.Settings.{Settings}
 use Rattle.wp_plain.specs.declared.ending.Counts.{Counts}
 use Rattle.wp_plain.specs.declared.ending.Ending.{Ending}
 use Rattle.wp_plain.specs.declared.ending.How.{How}
-use Rattle.wp_plain.specs.declared.explored.Explored.{Explored}
 use Rattle.wp_plain.specs.Pairs.{all_tuples, place_in}
-use Rattle.wp_plain.specs.Run.{Moment, run, ending_from, ending_of}
-use Rattle.wp_plain.specs.Explored.{Watched, watched, AreCountsOf, EndsAs}
+use Rattle.wp_plain.specs.Run.{Moment, run, counts_of, ending_from, ending_of}
 use Rattle.wp_plain.specs.Laws.{EndingsAnswer, EndingsOfAllAnswer}
 use Rattle.wp_plain.proofs.FoundLemmas.{found_is_plan}
 use Rattle.wp_plain.proofs.EmptiedLemmas.{emptied_has_no_plan}
@@ -37,15 +35,15 @@ endings_of_all_answer task settings fits =
     let tuples = tuples_in settings.width task.atoms in
     endings_answer task settings (all_tuples task settings) tuples (place_in tuples) fits (all_are_counted task settings.width)
 
--- the ending of a search, from what it stands for where it ends
-pub ending_is : (task : PlanningTask) (settings : Settings) (tuples : ℕ) (watchers : List (WatchKind × Option ℕ)) (e : Explored) (places : List Place) (how : How) (counts : Counts) →
-    EndsAs task settings watchers (run task settings tuples) (watched e places) how → AreCountsOf e counts →
-    ◌≡◌ {A = Ending} (record { how = how; counts = counts }) (ending_of task settings tuples)
-ending_is task settings tuples watchers e places how counts end counted =
-    (λ j. (let x : Ending = record { how = how; counts = counted task settings watchers places end.0 end.1 end.2 j } in x)) ∙ ap ending_from (sym end.3)
+-- ---- how a run ends
+module _ (task : PlanningTask) (settings : Settings) (tuples : ℕ) where
+  -- how it ended, with what was counted
+  pub ending_is : (how : How) (counts : Counts) (end : Moment) → run task settings tuples ≡ (how, end) → counts ≡ counts_of end →
+      ◌≡◌ {A = Ending} (record { how = how; counts = counts }) (ending_of task settings tuples)
+  ending_is how counts end ran counted =
+      (λ j. (let x : Ending = record { how = how; counts = counted j } in x)) ∙ ap ending_from (sym ran)
 
--- and where the watchers stand then
-pub told_is : (task : PlanningTask) (settings : Settings) (tuples : ℕ) (watchers : List (WatchKind × Option ℕ)) (s : Watched) (how : How) →
-    EndsAs task settings watchers (run task settings tuples) s how → AreAfter watchers (run task settings tuples).1.events s.places
-told_is task settings tuples watchers s how end =
-    subst (λ (x : How × Moment). AreAfter watchers x.1.events s.places) (sym end.3) end.2.told
+  -- watchers that were told the events of the end were told those of the run
+  pub told_is : (how : How) (end : Moment) (list : List (WatchKind × Option ℕ)) (places : List Place) → run task settings tuples ≡ (how, end) →
+      AreAfter list end.events places → AreAfter list (run task settings tuples).1.events places
+  told_is how end list places ran after = subst (λ (x : How × Moment). AreAfter list x.1.events places) (sym ran) after

@@ -21,6 +21,7 @@ pub mod EventLemmas
 pub mod ExpandLemmas
 pub mod PathLemmas
 pub mod RunLemmas
+pub mod ToldLemmas
 pub mod OpeningLemmas
 pub mod FirstLemmas
 pub mod WorkerLemmas

@@ -10,11 +10,10 @@ use Rattle.wp_count.specs.Laws.{HasCounters, IsMarked, MarksCount}
 use Rattle.wp_plain.specs.declared.settings.Settings.{Settings}
 use Rattle.wp_plain.specs.declared.explored.Way.{Way}
 use Rattle.wp_plain.specs.declared.explored.Explored.{Explored}
-use Rattle.wp_plain.specs.Nodes.{Node, generated_in}
-use Rattle.wp_plain.specs.Pairs.{pairs_in}
+use Rattle.wp_plain.specs.Nodes.{Node}
 use Rattle.wp_plain.specs.Expansion.{path_counters, generated_at, root_of}
 use Rattle.wp_plain.specs.Run.{opening}
-use Rattle.wp_plain.specs.Explored.{node_at, way_at, lists_of, Lists, IsReached, AreReached, Opens}
+use Rattle.wp_plain.specs.Explored.{node_at, way_at, lists_of, Lists, IsReached, AreReached, StandsFor}
 use Rattle.wp_plain.proofs.NodeLemmas.{novelty-earlier}
 
 alone : (width : ℕ) (x : Generated) → novelty_of width [] x ≡ novelty_of width (x ∷ []) x
@@ -53,8 +52,8 @@ module _ (task : PlanningTask) (settings : Settings) (counts : MarksCount)
 
   pub opening-stands : (e : Explored) (mark : Mark) (track : List ℕ) → mark ≡ root_mark task → track ≡ relaxed_atoms_of task.acts task.goals task.init →
       e.nodes.items ≡ root_of task settings ∷ [] → e.ways.items ≡ record { back = None; mark = mark } ∷ [] → e.tracks.items ≡ track ∷ [] →
-      e.pairs.items ≡ (mark.g, mark.r) ∷ [] → e.expanded ≡ 0 → e.repeats ≡ 0 → Opens task settings e
-  opening-stands e mark track mark_is track_is nodes ways tracks pairs expanded repeats watchers places told =
+      e.pairs.items ≡ (mark.g, mark.r) ∷ [] → e.expanded ≡ 0 → e.repeats ≡ 0 → StandsFor task e (opening task settings)
+  opening-stands e mark track mark_is track_is nodes ways tracks pairs expanded repeats =
       let root : List Node = root_of task settings ∷ [] in
       let kept : Lists = record {
         nodes = root;
@@ -67,6 +66,7 @@ module _ (task : PlanningTask) (settings : Settings) (counts : MarksCount)
         tracks = sym (tracks ∙ λ i. track_is i ∷ []) j;
       } in l) in
       record {
+        nodes = nodes;
         reached = subst (AreReached task (opening task settings).paths) same (record {
           path_each = refl;
           way_each = refl;
@@ -75,14 +75,7 @@ module _ (task : PlanningTask) (settings : Settings) (counts : MarksCount)
               subst (λ i. IsReached task (opening task settings).paths kept.tracks i (node_at kept.nodes i).generated (way_at kept.ways i)) first root-reached;
         });
         pairs = pairs
-            ∙ ((λ j. ((mark_is j).g, (mark_is j).r) ∷ [])
-            ∙ ((λ j. (counters.unmet j, counters.relaxed j) ∷ [])
-            ∙ ap (λ ns. pairs_in (generated_in ns)) (sym nodes)));
+            ∙ ((λ j. ((mark_is j).g, (mark_is j).r) ∷ []) ∙ (λ j. (counters.unmet j, counters.relaxed j) ∷ []));
         expanded = expanded;
         repeats = repeats;
-        few = omega (arith, expanded);
-        bounded = omega (arith, expanded, repeats);
-        told = told;
-        born = ap length (sym nodes);
-        few_born = omega arith;
       }

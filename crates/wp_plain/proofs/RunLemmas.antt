@@ -2,17 +2,15 @@
 use Rattle.std.proofs.Common.{◌≡◌, ◌==◌, ℕ, suc, ◌+◌, Bool, refl, true, false, List, [], Option, Some, None, length, sym, ap, ◌∙◌}
 use Rattle.std.proofs.lemmas.Bool.{eq-eqb, ne_eqb}
 use Rattle.wp_task.specs.Task.{PlanningTask}
-use Rattle.wp_watch.specs.declared.event.Event.{Event}
-use Rattle.wp_watch.specs.declared.watch.WatchKind.{WatchKind}
+use Rattle.wp_watch.specs.Places.{Place}
 use Rattle.wp_plain.specs.declared.settings.Settings.{Settings}
 use Rattle.wp_plain.specs.declared.ending.How.{How}
 use Rattle.wp_plain.specs.declared.ending.How.TheVariants.{Found, Budget, Words}
-use Rattle.wp_plain.specs.declared.explored.Explored.{Explored}
-use Rattle.wp_plain.specs.Nodes.{Node, Path, path_at}
+use Rattle.wp_plain.specs.Nodes.{Node, path_at}
 use Rattle.wp_plain.specs.Pairs.{pairs_in, exceeds}
 use Rattle.wp_plain.specs.Run.{Moment, Outcome, fresh_at, all_at, nodes_at, repeats_at, expanded, IsTaken, expand, look_at, opening, run, step, run_from}
 use Rattle.wp_plain.specs.Run.Outcome.{Goes, Ends}
-use Rattle.wp_plain.specs.Explored.{Watched, moment_of, StandsFor, Steps, StepsFrom}
+use Rattle.wp_plain.specs.Steps.{Steps}
 
 module _ (task : PlanningTask) (settings : Settings) (tuples : ℕ) where
   pub look_at-found : (m : Moment) (node : Node) (plan : List ℕ) → (node.generated.counters.0 == 0) ≡ true → plan ≡ (path_at m.paths node.generated.number).acts →
@@ -33,45 +31,12 @@ module _ (task : PlanningTask) (settings : Settings) (tuples : ℕ) where
       ]) unmet
       ∙ ap (λ b. elim b as (λ _. Outcome) [ true ↦ Ends Budget | false ↦ expand task settings tuples m node ]) spare
 
-  -- outcomes that are the same from each moment
-  steps-same : (watchers : List (WatchKind × Option ℕ)) (outcome other : Outcome) (s later : Watched) (how : Option How) → outcome ≡ other →
-      Steps task settings watchers other s later how → Steps task settings watchers outcome s later how
-  steps-same watchers outcome other s later None same went = (went.0, went.1, went.2, same ∙ went.3)
-  steps-same watchers outcome other s later (Some end) same went = (went.0, same ∙ went.1)
-
-  pub steps-from_same : (outcome other : Moment → Outcome) (s later : Watched) (how : Option How) →
-      ((watchers : List (WatchKind × Option ℕ)) (paths : List Path) (events : List Event) → StandsFor task settings watchers s paths events →
-      outcome (moment_of s.explored paths events) ≡ other (moment_of s.explored paths events)) →
-      StepsFrom task settings other s later how → StepsFrom task settings outcome s later how
-  steps-from_same outcome other s later how same went = λ watchers paths events stands.
-      steps-same watchers (outcome (moment_of s.explored paths events)) (other (moment_of s.explored paths events)) s later how
-      (same watchers paths events stands) (went watchers paths events stands)
-
   -- one step more
   pub run_from-goes : (steps : ℕ) (m next : Moment) → step task settings tuples m ≡ Goes next → run_from task settings tuples (suc steps) m ≡ run_from task settings tuples steps next
   run_from-goes steps m next goes = ap (λ o. elim o as (λ _. How × Moment) [ Goes after ↦ run_from task settings tuples steps after | Ends how ↦ (how, m) ]) goes
 
   pub run_from-ends : (steps : ℕ) (m : Moment) (how : How) → step task settings tuples m ≡ Ends how → run_from task settings tuples (suc steps) m ≡ (how, m)
   run_from-ends steps m how ends = ap (λ o. elim o as (λ _. How × Moment) [ Goes after ↦ run_from task settings tuples steps after | Ends end ↦ (end, m) ]) ends
-
-  -- the run begins with the steps from the opening, unless the root's pair wants too many words
-  pub run-goes : (e : Explored) → exceeds settings.words 1 tuples ≡ false → e.nodes.items ≡ (opening task settings).nodes →
-      run task settings tuples ≡ run_from task settings tuples (settings.budget + 1) (moment_of e (opening task settings).paths [])
-  run-goes e few nodes =
-      ap (λ b. elim b as (λ _. How × Moment) [
-        | true ↦ (Words 1, opening task settings)
-        | false ↦ run_from task settings tuples (settings.budget + 1) (opening task settings)
-      ]) few
-      ∙ λ j. run_from task settings tuples (settings.budget + 1) (let m : Moment = record { nodes = sym nodes j; paths = (opening task settings).paths; events = [] } in m)
-
-  pub run-words : (e : Explored) → exceeds settings.words 1 tuples ≡ true → e.nodes.items ≡ (opening task settings).nodes →
-      run task settings tuples ≡ (Words 1, moment_of e (opening task settings).paths [])
-  run-words e many nodes =
-      ap (λ b. elim b as (λ _. How × Moment) [
-        | true ↦ (Words 1, opening task settings)
-        | false ↦ run_from task settings tuples (settings.budget + 1) (opening task settings)
-      ]) many
-      ∙ λ j. (Words 1, (let m : Moment = record { nodes = sym nodes j; paths = (opening task settings).paths; events = [] } in m))
 
   pub is_taken : IsTaken task settings tuples
   is_taken = record {
@@ -103,3 +68,9 @@ module _ (task : PlanningTask) (settings : Settings) (tuples : ℕ) where
       | true ↦ (Words 1, opening task settings)
       | false ↦ run_from task settings tuples (settings.budget + 1) (opening task settings)
     ]
+
+-- outcomes that are the same
+pub Steps-same : (stands holds : Moment → Type 0) (settings : Settings) (outcome other : Outcome) (m : Moment) (places later : List Place) (how : Option How) →
+    outcome ≡ other → Steps stands holds settings other m places later how → Steps stands holds settings outcome m places later how
+Steps-same stands holds settings outcome other m places later None same went = (went.0, went.1, went.2, same ∙ went.3, went.4)
+Steps-same stands holds settings outcome other m places later (Some end) same went = (went.0, same ∙ went.1, went.2)

@@ -1,7 +1,6 @@
--- What the plain search keeps, and the moments that it stands for: the moment's nodes are kept as they are, a link to its
--- parent stands for each path, and where the watchers stand for the events.
-use Rattle.std.specs.Prelude.{◌≡◌, ◌+◌, ◌*◌, ◌<◌, ◌≤◌, ℕ, Bool, false, List, All, [], ◌∷◌, ◌++◌, length, map, drop, fold, slice_index_or, slice_set, Option, Some, None, IfSome, MatchOption}
-use Rattle.std.specs.List.{sum_by}
+-- What the plain search keeps, and the moments that it stands for: the moment's nodes are kept as they are, and a link to its
+-- parent stands for each path. Of the events there are the counts.
+use Rattle.std.specs.Prelude.{◌≡◌, ◌+◌, ◌-◌, ◌<◌, ℕ, Bool, false, List, All, [], ◌∷◌, ◌++◌, length, map, drop, fold, slice_index_or, slice_set, Option, Some, None, IfSome}
 use Rattle.std.specs.Option.{option_to_list}
 use Rattle.wp_task.specs.Task.{PlanningTask}
 use Rattle.wp_task.specs.Novelty.{Generated}
@@ -11,20 +10,16 @@ use Rattle.wp_count.specs.Laws.{IsMarked, IsEvaluated, mark_of}
 use Rattle.wp_task.specs.declared.track.Mark.{Mark}
 use Rattle.wp_watch.specs.declared.event.Born.{Born}
 use Rattle.wp_watch.specs.declared.event.Event.{Event}
-use Rattle.wp_watch.specs.declared.watch.WatchKind.{WatchKind}
-use Rattle.wp_watch.specs.Sums.{born_in}
-use Rattle.wp_watch.specs.Places.{Place, AreAfter}
+use Rattle.wp_watch.specs.Sums.{repeats_in}
 use Rattle.wp_plain.specs.declared.settings.Settings.{Settings}
-use Rattle.wp_plain.specs.declared.ending.Counts.{Counts}
-use Rattle.wp_plain.specs.declared.ending.How.{How}
 use Rattle.wp_plain.specs.declared.explored.Link.{Link}
 use Rattle.wp_plain.specs.declared.explored.Way.{Way}
 use Rattle.wp_plain.specs.declared.explored.Explored.{Explored}
-use Rattle.wp_plain.specs.Nodes.{Node, Path, Successor, path_at, extended, generated_in}
+use Rattle.wp_plain.specs.declared.explored.Expansion.{Expansion}
+use Rattle.wp_plain.specs.Nodes.{Node, Path, Successor, path_at, extended, generated_in, states_kept}
 use Rattle.wp_plain.specs.Pairs.{with_pair, pairs_in}
 use Rattle.wp_plain.specs.Expansion.{successors_of, unseen, path_counters, fresh_of, node_of, born_of, event_of}
-use Rattle.wp_plain.specs.Run.{Moment, Outcome, counts_of, opening, run, run_from}
-use Rattle.wp_plain.specs.Run.Outcome.{Goes, Ends}
+use Rattle.wp_plain.specs.Run.{Moment}
 
 -- past the end of a list
 abbrev pub no_node : Node
@@ -168,73 +163,30 @@ event_at lists place repeats first =
     event_of (node_at lists.nodes place) repeats (borns_by (drop first lists.nodes) (drop first lists.ways))
 
 -- ---- moments
--- a search, and where its watchers stand
-pub record Watched : Type 0 where
-  pub explored : Explored
-  pub places : List Place
-
-abbrev pub watched : Explored → List Place → Watched
-watched e places = record { explored = e; places = places }
-
 abbrev pub moment_of : Explored → List Path → List Event → Moment
 moment_of e paths events = record { nodes = e.nodes.items; paths = paths; events = events }
 
--- the search stands for the moment with these paths and events, which were told to these watchers
-pub record StandsFor (task : PlanningTask) (settings : Settings) (watchers : List (WatchKind × Option ℕ)) (s : Watched) (paths : List Path) (events : List Event) : Type 0 where
-  pub reached : AreReached task paths (lists_of s.explored)
-  pub pairs : s.explored.pairs.items ≡ pairs_in (generated_in s.explored.nodes.items)
-  pub expanded : s.explored.expanded ≡ length events
-  pub repeats : s.explored.repeats ≡ sum_by (λ event. event.repeats) events
-  pub few : s.explored.expanded ≤ settings.budget
-  pub bounded : s.explored.repeats ≤ 1048576 * s.explored.expanded
-  pub told : AreAfter watchers events s.places
-  pub born : born_in events + 1 ≡ length s.explored.nodes.items
-  pub few_born : born_in events ≤ 1048576 * s.explored.expanded
+-- the search stands for the moment
+pub record StandsFor (task : PlanningTask) (e : Explored) (m : Moment) : Type 0 where
+  pub nodes : e.nodes.items ≡ m.nodes
+  pub reached : AreReached task m.paths (lists_of e)
+  pub pairs : e.pairs.items ≡ pairs_in (generated_in m.nodes)
+  pub expanded : e.expanded ≡ length m.events
+  pub repeats : e.repeats ≡ repeats_in m.events
 
--- the search stands for some moment
-abbrev pub StandsForSome : PlanningTask → Settings → Watched → Type 0
-StandsForSome task settings s = (watchers : List (WatchKind × Option ℕ)) × (paths : List Path) × (events : List Event)
-    × StandsFor task settings watchers s paths events
+-- the node of the number is in the lists
+pub record IsTakenAt (task : PlanningTask) (e : Explored) (m : Moment) (node : Node) (number : ℕ) : Type 0 where
+  pub stands : StandsFor task e m
+  pub within : number < length e.nodes.items
+  pub node_is : node_at e.nodes.items number ≡ node
 
--- it stands for the opening, whoever the watchers are that were told nothing
-abbrev pub Opens : PlanningTask → Settings → Explored → Type 0
-Opens task settings e = (watchers : List (WatchKind × Option ℕ)) (places : List Place) → AreAfter watchers [] places →
-    StandsFor task settings watchers (watched e places) (opening task settings).paths []
-
--- a step from there: it goes on to a moment that the search then stands for, or it ends and changes nothing
-abbrev pub Steps : PlanningTask → Settings → List (WatchKind × Option ℕ) → Outcome → Watched → Watched → Option How → Type 0
-Steps task settings watchers outcome s later how = MatchOption how
-    ((paths : List Path) × (events : List Event) × StandsFor task settings watchers later paths events
-    × (outcome ≡ Goes (moment_of later.explored paths events)))
-    (λ end. (later ≡ s) × (outcome ≡ Ends end))
-
--- the same, from each moment that the search stands for
-abbrev pub StepsFrom : PlanningTask → Settings → (Moment → Outcome) → Watched → Watched → Option How → Type 0
-StepsFrom task settings outcome s later how = (watchers : List (WatchKind × Option ℕ)) (paths : List Path) (events : List Event) →
-    StandsFor task settings watchers s paths events →
-    Steps task settings watchers (outcome (moment_of s.explored paths events)) s later how
-
--- a run ends so, at a moment that the search then stands for
-abbrev pub EndsAs : PlanningTask → Settings → List (WatchKind × Option ℕ) → How × Moment → Watched → How → Type 0
-EndsAs task settings watchers end later how = (paths : List Path) × (events : List Event)
-    × StandsFor task settings watchers later paths events × (end ≡ (how, moment_of later.explored paths events))
-
--- all the steps from each moment that the search stands for
-abbrev pub RunsFrom : PlanningTask → Settings → ℕ → Watched → Watched → How → Type 0
-RunsFrom task settings tuples s later how = (watchers : List (WatchKind × Option ℕ)) (paths : List Path) (events : List Event) →
-    StandsFor task settings watchers s paths events →
-    EndsAs task settings watchers (run_from task settings tuples (settings.budget + 1) (moment_of s.explored paths events)) later how
-
--- the whole run, told to whoever the watchers are that were told nothing
-abbrev pub RunsWhole : PlanningTask → Settings → ℕ → List Place → Watched → How → Type 0
-RunsWhole task settings tuples places later how = (watchers : List (WatchKind × Option ℕ)) → AreAfter watchers [] places →
-    EndsAs task settings watchers (run task settings tuples) later how
-
--- the counts are those of each moment that the search stands for
-abbrev pub AreCountsOf : Explored → Counts → Type 0
-AreCountsOf e counts = (task : PlanningTask) (settings : Settings) (watchers : List (WatchKind × Option ℕ)) (places : List Place)
-    (paths : List Path) (events : List Event) →
-    StandsFor task settings watchers (watched e places) paths events → counts ≡ counts_of (moment_of e paths events)
+-- its children that are no repeats, how many are, and the pairs of all nodes with them
+pub record IsEvaluatedAt (task : PlanningTask) (e : Explored) (m : Moment) (node : Node) (number : ℕ) (x : Expansion) : Type 0 where
+  pub taken : IsTakenAt task e m node number
+  pub fresh : x.fresh.items ≡ unseen (λ c. c.state) (states_kept e.nodes.items) (brood_at task (lists_of e) number)
+  pub repeats : x.repeats ≡ length (brood_at task (lists_of e) number) - length x.fresh.items
+  pub pairs : x.pairs.items ≡ fold with_pair e.pairs.items (map child_pair x.fresh.items)
+  pub evaluated : All (IsEvaluated task (path_at m.paths number).states (track_at e.tracks.items (way_at e.ways.items number).mark.track)) x.fresh.items
 
 -- the actions are those of the path to the place
 abbrev pub AreActsTo : Explored → ℕ → List ℕ → Type 0

@@ -5,5 +5,6 @@ pub mod Run
 pub mod Numbers
 pub mod Ranges
 pub mod Places
+pub mod Steps
 pub mod Explored
 pub mod Laws

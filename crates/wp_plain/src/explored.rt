@@ -1,18 +1,14 @@
 //! What the search keeps: lists by number, of nodes, of the ways to them, and of the tracks that #r counts on.
-ghost use Rattle.std.specs.Prelude.{◌≡◌, ◌++◌, ◌+◌, ◌<◌, ◌≤◌, ◌^◌, All, length, map, OnOk, IfOk};
+ghost use Rattle.std.specs.Prelude.{◌≡◌, ◌++◌, ◌+◌, ◌<◌, ◌≤◌, ◌^◌, length, OnOk, IfOk};
 ghost use Rattle.std.specs.Option.{option_to_list};
-ghost use Rattle.wp_watch.specs.Places.{CanTellPlace, told_place};
-ghost use Rattle.wp_plain.specs.Places.{places_in};
-ghost use Rattle.wp_plain.specs.Explored.{act_of, event_at, expanded_at, track_number, lists_of, with_child, with_children};
+ghost use Rattle.wp_plain.specs.Explored.{act_of, expanded_at, track_number, lists_of, with_child, with_children};
 
 use crate::node::{GeneratedNode, SearchNode};
 use crate::novelty::novelty;
 use crate::settings::{Settings, keeps};
-use crate::telling::tell_expansion;
 use std::alloc::{AllocError, Global};
 use wp_count::Child;
 use wp_task::{Mark, Track};
-use wp_watch::Watchers;
 
 /// The parent of a node, and the action that led from it.
 #[derive(Clone, Copy, Drop)]
@@ -51,35 +47,16 @@ pub(crate) struct Explored {
     pub repeats: u64,
 }
 
-/// Takes up an expansion: the node at a place waits no longer, its children are numbered, and then it is told. Want of
-/// memory leaves watchers that are only good for being dropped.
-pub(crate) fn commit(
-    alloc: Global,
-    explored: &mut Explored,
-    settings: &Settings,
-    place: usize,
-    children: Vec<Child>,
-    repeats: u64,
-    watchers: &mut Watchers,
-) -> Result<(), AllocError>
-    requires place { place < length explored.old.nodes.items }
-    requires ways { length explored.old.ways.items ≡ length explored.old.nodes.items }
-    requires width { (1 ≤ settings.now.width) × (settings.now.width ≤ 2) }
-    requires expanded { explored.old.expanded + 1 < 2 ^ 64 }
-    requires repeats { explored.old.repeats + repeats < 2 ^ 64 }
-    requires can { All (CanTellPlace (event_at (expanded_at settings.now place (lists_of explored.old) children.items) place repeats (length explored.old.nodes.items))) (places_in kind until told watchers.old) }
-    ensures lists { OnOk result (lists_of explored.new ≡ expanded_at settings.now place (lists_of explored.old) children.items) }
-    ensures pairs { OnOk result (explored.new.pairs ≡ explored.old.pairs) }
-    ensures expanded { OnOk result (explored.new.expanded ≡ explored.old.expanded + 1) }
-    ensures repeats { OnOk result (explored.new.repeats ≡ explored.old.repeats + repeats) }
-    ensures told { OnOk result (places_in kind until told watchers.new ≡ map (told_place (event_at (expanded_at settings.now place (lists_of explored.old) children.items) place repeats (length explored.old.nodes.items))) (places_in kind until told watchers.old)) }
-{
-    let first = explored.nodes.len();
-    number_children(alloc, explored, settings, place, children, repeats)?;
-    tell_expansion(alloc, explored, place, repeats, first, watchers)
+/// The children of a node that are no repeats, how many are, and the pairs of all nodes with them.
+#[derive(Drop)]
+pub(crate) struct Expansion {
+    pub fresh: Vec<Child>,
+    pub repeats: u64,
+    pub pairs: Vec<(u32, u32)>,
 }
 
-fn number_children(
+/// Takes up an expansion: the node at a place waits no longer, and its children are numbered.
+pub(crate) fn number_children(
     alloc: Global,
     explored: &mut Explored,
     settings: &Settings,

@@ -7,6 +7,7 @@
 //! tests compare with this one. It knows nothing of threads and of texts.
 #![tactic(auto)]
 
+pub mod best_first;
 pub mod ending;
 mod explored;
 mod first;
@@ -16,10 +17,12 @@ mod novelty;
 mod pairs;
 mod paths;
 mod repeats;
+pub mod run;
 pub mod search;
 pub mod settings;
 mod telling;
 
+pub use best_first::{BestFirst, root_alone, search_from};
 pub use ending::{Counts, Ending, How};
 pub use first::first_is_least;
 pub use laws::{
@@ -29,5 +32,6 @@ pub use laws::{
 };
 pub use pairs::{exceeds, pairs_are_listed, tuple_count};
 pub use repeats::repeats_are_left_out;
+pub use run::Run;
 pub use search::plain_search;
 pub use settings::{Search, Settings, keeps, workers_play_no_part};

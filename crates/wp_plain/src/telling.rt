@@ -1,33 +1,29 @@
-//! What is told of an expansion, and to whom.
-ghost use Rattle.std.specs.Prelude.{◌≡◌, ◌<◌, All, drop, length, map, IfOk, OnOk};
-ghost use Rattle.wp_watch.specs.Places.{CanTellPlace, told_place};
-ghost use Rattle.wp_plain.specs.Places.{places_in};
+//! What is told of an expansion.
+ghost use Rattle.std.specs.Prelude.{◌≡◌, ◌<◌, drop, false, length, IfOk, MatchOption};
 ghost use Rattle.wp_plain.specs.Explored.{borns_by, event_at, lists_of};
 
 use crate::explored::Explored;
 use std::alloc::{AllocError, Global};
-use wp_watch::{Born, Borns, Event, Watchers};
+use wp_watch::{Born, Borns, Event};
 
-/// Tells the expansion of the node at a place, whose children are the nodes from `first` on. Where nobody watches no event
-/// is made. Want of memory leaves watchers that are only good for being dropped.
-pub(crate) fn tell_expansion(
+/// What is told of the expansion of the node at a place, whose children are the nodes from `first` on, where that is wanted.
+pub(crate) fn told_at(
     alloc: Global,
     explored: &Explored,
     place: usize,
     repeats: u64,
     first: usize,
-    watchers: &mut Watchers,
-) -> Result<(), AllocError>
+    wanted: bool,
+) -> Result<Option<Event>, AllocError>
     requires place { place < length explored.now.nodes.items }
     requires ways { length explored.now.ways.items ≡ length explored.now.nodes.items }
-    requires can { All (CanTellPlace (event_at (lists_of explored.now) place repeats first)) (places_in kind until told watchers.old) }
-    ensures { OnOk result (places_in kind until told watchers.new ≡ map (told_place (event_at (lists_of explored.now) place repeats first)) (places_in kind until told watchers.old)) }
+    ensures { IfOk result (λ told. MatchOption told (wanted ≡ false) (λ event. event ≡ event_at (lists_of explored.now) place repeats first)) }
 {
-    if watchers.slots.is_empty() {
-        return Ok(());
+    if !wanted {
+        return Ok(None);
     }
     let event = event_at(alloc, explored, place, repeats, first)?;
-    watchers.tell(&event)
+    Ok(Some(event))
 }
 
 fn event_at(

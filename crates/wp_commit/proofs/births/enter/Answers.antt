@@ -9,7 +9,7 @@ use Rattle.wp_commit.proofs.ExpansionLemmas.{all-open, in_hand, laws_of, last-be
 use Rattle.wp_commit.proofs.births.enter.Goals as goal
 
 pub number_all-requires-clause-open : goal.number_all-requires-clause-open
-number_all-requires-clause-open c =
+number_all-requires-clause-open g c =
     let a = c.args.run.now in
     let s = c.args.searched.now in
     let tables = c.args.tables.now in
@@ -21,7 +21,7 @@ number_all-requires-clause-open c =
     c.open_all.new.tables.tables c.in_ok-open_all.ensures.keys
 
 pub number_all-requires-clause-sizes : goal.number_all-requires-clause-sizes
-number_all-requires-clause-sizes c =
+number_all-requires-clause-sizes g c =
     let a = c.args.run.now in
     let s = c.args.searched.now in
     let tables = c.args.tables.now in
@@ -33,7 +33,7 @@ number_all-requires-clause-sizes c =
     c.open_all.new.tables.index c.in_ok-open_all.ensures.index
 
 pub number_all-requires-clause-later : goal.number_all-requires-clause-later
-number_all-requires-clause-later c =
+number_all-requires-clause-later g c =
     let a = c.args.run.now in
     let s = c.args.searched.now in
     let tables = c.args.tables.now in
@@ -45,7 +45,7 @@ number_all-requires-clause-later c =
     c.open_all.new.tables.last c.in_ok-open_all.ensures.last
 
 pub returns : goal.returns
-returns c m node at =
+returns g c m node at =
     let a = c.args.run.now in
     let s = c.args.searched.now in
     let tables = c.args.tables.now in

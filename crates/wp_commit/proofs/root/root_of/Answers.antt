@@ -1,16 +1,20 @@
 use Rattle.std.proofs.Common.{◌≡◌, ◌++◌, ◌∷◌, [], ap, ◌∙◌, subst}
+use Rattle.wp_task.specs.Task.{PlanningTask}
 use Rattle.wp_task.specs.Novelty.{novelty_of}
+use Rattle.wp_count.specs.Laws.{IsMarked}
 use Rattle.wp_novel.specs.Births.{Birth}
 use Rattle.wp_novel.specs.StandsFor.{generated_of, StandsFor}
 use Rattle.wp_queue.specs.OpenList.{waiting, IsWith}
 use Rattle.wp_nodes.specs.KeptNodes.{Keeping}
+use Rattle.wp_plain.specs.Steps.{Asked}
 use Rattle.wp_commit.proofs.RootLemmas.{root_birth, root_kept, opening-stands}
-use Rattle.wp_commit.proofs.root.opening.Goals as goal
+use Rattle.wp_commit.proofs.root.root_of.Goals as goal
 
 pub returns : goal.returns
-returns c =
-    let task = c.args.task.now in
-    let settings = c.args.settings.now in
+returns g c =
+    let task = c.args.run.now.task in
+    let settings = c.args.run.now.settings in
+    let asked : c.run.inside.task.now ≡ task = ap (λ (a : Asked). a.task) c.run.view_is in
     let tables = c.enter_root.new.tables in
     let state = c.in_ok-state.state in
     let mark = c.in_ok-state.mark in
@@ -24,9 +28,9 @@ returns c =
     let tracked : c.add_track.new.self ≡ record { kept = []; tracks = track ∷ [] } =
     c.in_ok-add_track.ensures.added ∙ ap (λ (n : Keeping). record n { tracks = n.tracks ++ track ∷ [] }) c.new-nodes.ensures in
     opening-stands task settings c.counters_are_carried.ensures.counters tables c.add.new.self c.put.new.self state mark track w (record {
-      state_is = ap (λ parts. parts.0) c.in_ok-state.ensures.value;
+      state_is = ap (λ parts. parts.0) c.in_ok-state.ensures.value ∙ ap (λ (t : PlanningTask). t.init) asked;
       track_is = ap (λ parts. parts.1.track) c.in_ok-state.ensures.value;
-      marked = c.in_ok-state.ensures.marked;
+      marked = subst (λ (t : PlanningTask). IsMarked t state [] mark track) asked c.in_ok-state.ensures.marked;
       w_is = c.in_ok-w.ensures.novelty ∙ (λ j. novelty_of (width j) (generated_of (root_is j) ∷ []) (generated_of (root_is j)));
       index = c.in_ok-w.ensures.index ∙ c.requires.index;
       limit = c.in_ok-w.ensures.limit ∙ c.requires.limit;

@@ -1,0 +1,109 @@
+//! The fast store: kept nodes by their states, an open list, and novelty tables.
+
+use crate::births::enter;
+use crate::evaluation::{Expansion, expansion_of};
+use crate::keep::keep_expansion;
+use crate::run::Run;
+use crate::searched::{Searched, counts_of, node_at};
+use crate::telling::told_of;
+use std::alloc::{AllocError, Global};
+use std::thread::Threads;
+use wp_count::counters_are_carried;
+use wp_edge::Gate;
+use wp_novel::Tables;
+use wp_plain::{BestFirst, Counts, children_are_numbered, first_is_least, nodes_are_numbered};
+use wp_task::Atoms;
+use wp_watch::Event;
+
+/// What a run needs throughout, and what the search keeps.
+#[derive(Drop)]
+pub(crate) struct Store<'a, R, G> {
+    pub run: Run<'a, R, G>,
+    pub searched: Searched,
+    pub tables: Tables,
+}
+
+impl<'a, R: Threads + Sync, G: Gate> BestFirst for Store<'a, R, G> {
+    ghost use Rattle.wp_commit.specs.Searched.{HoldsAt, StandsAt, IsTakenAt, IsRunOf};
+    ghost use Rattle.wp_commit.specs.Expansions.{IsExpansionOf};
+
+    type Expansion = Expansion;
+
+    ghost stands = { λ s asked m. IsRunOf s.run asked × StandsAt s.run.task s.run.settings s.searched s.tables m };
+
+    ghost holds = { λ s asked m. IsRunOf s.run asked × HoldsAt s.run.task s.run.settings s.searched s.tables m };
+
+    ghost has_taken = { λ s asked m node number. IsRunOf s.run asked
+        × IsTakenAt s.run.task s.run.settings s.searched s.tables m node number };
+
+    ghost has_evaluated = { λ s asked m node number x. IsRunOf s.run asked
+        × IsTakenAt s.run.task s.run.settings s.searched s.tables m node number
+        × IsExpansionOf s.run.task s.searched s.tables number x };
+
+    ghost standing_holds = { λ s asked m stands. (stands.0, stands.1.holds) };
+
+    ghost taken_holds = { λ s asked m node number taken. (taken.0, taken.1.holds) };
+
+    ghost evaluated_holds = { λ s asked m node number x evaluated. (evaluated.0, evaluated.1.holds) };
+
+    fn take(&mut self) -> Option<u64> {
+        // By this law the node that is taken is the definition's first one.
+        first_is_least();
+        self.searched.queue.take()
+    }
+
+    fn has_goals(&self, number: u64) -> bool {
+        node_at(&self.run, &self.searched, &self.tables, number)
+            .mark
+            .g
+            == 0
+    }
+
+    fn plan_to(&self, alloc: Global, number: u64) -> Result<Atoms, AllocError> {
+        let node = node_at(&self.run, &self.searched, &self.tables, number);
+        self.searched.nodes.plan_to(alloc, node.number)
+    }
+
+    fn counts(&self) -> Counts {
+        counts_of(&self.run, &self.searched, &self.tables)
+    }
+
+    fn evaluate(
+        &mut self,
+        _run: &wp_plain::Run,
+        number: u64,
+    ) -> Result<(u64, Expansion), AllocError> {
+        // By the law of the counters those of the children are those of their whole paths, and by the others nodes and
+        // children are numbered as the definition's are.
+        counters_are_carried();
+        children_are_numbered();
+        nodes_are_numbered();
+        let expansion = expansion_of(&mut self.run, &self.searched, &self.tables, number)?;
+        let needed = self.tables.pairs() + expansion.pairs.len() as u64;
+        Ok((needed, expansion))
+    }
+
+    fn admit(
+        &mut self,
+        run: &wp_plain::Run,
+        number: u64,
+        expansion: Expansion,
+        wanted: bool,
+    ) -> Result<Option<Event>, AllocError> {
+        counters_are_carried();
+        children_are_numbered();
+        nodes_are_numbered();
+        let node = node_at(&self.run, &self.searched, &self.tables, number);
+        let numbered = enter(
+            &self.run,
+            &self.searched,
+            &mut self.tables,
+            number,
+            expansion,
+        )?;
+        let told = told_of(&self.run, node, &numbered, wanted)?;
+        let track = node.mark.track;
+        keep_expansion(&mut self.searched, run.settings(), number, track, numbered)?;
+        Ok(told)
+    }
+}
