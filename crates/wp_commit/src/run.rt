@@ -6,7 +6,7 @@ use std::alloc::{AllocError, Global};
 use std::marker::Model;
 use wp_plain::Settings;
 use wp_relax::Workspace;
-use wp_succ::Plain;
+use wp_succ::Tree;
 use wp_task::Task;
 
 /// What a run needs throughout, made once: callers see the task and the settings, which are in range.
@@ -15,12 +15,13 @@ pub(crate) struct Run<'a> {
     pub alloc: Global,
     pub task: &'a Task,
     pub settings: Settings,
-    pub succ: Plain,
+    pub succ: Tree,
     pub work: Workspace,
 }
 
 impl<'a> Model for Run<'a> {
-    ghost use Rattle.std.specs.Prelude.{◌≡◌};
+    ghost use Rattle.std.specs.Prelude.{◌≡◌, IsTrue};
+    ghost use Rattle.wp_succ.specs.Serving.{are_preconditions_of};
     ghost use Rattle.wp_relax.specs.Workspace.{room_for};
     ghost use Rattle.wp_plain.specs.Ranges.{AreInRange};
     ghost use Rattle.wp_commit.specs.Asked.{Asked};
@@ -29,7 +30,7 @@ impl<'a> Model for Run<'a> {
 
     ghost view = { λ r. record { task = r.task.now; settings = r.settings } };
 
-    ghost invariant = { λ r. AreInRange r.settings × (r.work ≡ room_for r.task.now) };
+    ghost invariant = { λ r. AreInRange r.settings × (r.work ≡ room_for r.task.now) × IsTrue (are_preconditions_of r.succ r.task.now) };
 }
 
 impl<'a> Run<'a> {
@@ -41,7 +42,7 @@ impl<'a> Run<'a> {
         requires { AreInRange settings }
         ensures { IfOk result (λ run. run ≡ record { task = task.now; settings = settings }) }
     {
-        let succ = Plain::of(task);
+        let succ = Tree::of(alloc, task)?;
         let work = Workspace::of(alloc, task)?;
         Ok(Run {
             alloc,
