@@ -9,7 +9,7 @@ use std::thread::Threads;
 use wp_edge::Gate;
 use wp_plain::Settings;
 use wp_relax::Workspace;
-use wp_succ::Plain;
+use wp_succ::Tree;
 use wp_task::Task;
 
 /// What a run needs throughout, made once: the threads that its jobs may be run by and the gate that they pass, memory, and what
@@ -21,12 +21,13 @@ pub(crate) struct Run<'a, R, G> {
     pub alloc: Global,
     pub task: &'a Task,
     pub settings: Settings,
-    pub succ: Plain,
+    pub succ: Tree,
     pub work: Workspace,
 }
 
 impl<'a, R, G> Model for Run<'a, R, G> {
-    ghost use Rattle.std.specs.Prelude.{◌≡◌};
+    ghost use Rattle.std.specs.Prelude.{◌≡◌, IsTrue};
+    ghost use Rattle.wp_succ.specs.Serving.{are_preconditions_of};
     ghost use Rattle.wp_relax.specs.Workspace.{room_for};
     ghost use Rattle.wp_plain.specs.Pairs.{all_tuples};
     ghost use Rattle.wp_plain.specs.Ranges.{AreInRange};
@@ -36,7 +37,7 @@ impl<'a, R, G> Model for Run<'a, R, G> {
 
     ghost view = { λ r. record { task = r.task.now; settings = r.settings; tuples = all_tuples r.task.now r.settings } };
 
-    ghost invariant = { λ r. AreInRange r.settings × (r.work ≡ room_for r.task.now) };
+    ghost invariant = { λ r. AreInRange r.settings × (r.work ≡ room_for r.task.now) × IsTrue (are_preconditions_of r.succ r.task.now) };
 }
 
 impl<'a, R: Threads + Sync, G: Gate> Run<'a, R, G> {
@@ -50,7 +51,7 @@ impl<'a, R: Threads + Sync, G: Gate> Run<'a, R, G> {
         requires { AreInRange settings }
         ensures { IfOk result (λ run. run ≡ record { task = task.now; settings = settings; tuples = all_tuples task.now settings }) }
     {
-        let succ = Plain::of(task);
+        let succ = Tree::of(alloc, task)?;
         let work = Workspace::of(alloc, task)?;
         Ok(Run {
             rt,

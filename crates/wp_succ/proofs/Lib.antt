@@ -1,0 +1,4 @@
+pub mod ReachedLemmas
+pub mod CountLemmas
+pub mod NeedLemmas
+pub mod WalkLemmas
