@@ -1,6 +1,6 @@
 -- A list that is written out, from the left: at its bytes no fault is met, and its items are those of its tree.
-use Rattle.std.proofs.Common.{◌≡◌, ℕ, zero, suc, ◌+◌, ◌-◌, ◌<◌, ◌≤◌, Bool, true, false, cond, not, ◌&&◌, ◌||◌, eqb, List, [], ◌∷◌, ◌++◌, length, None, Some, refl, sym, ap, ◌∙◌, arith, inl, inr, ne_eqb, append_assoc, length-append}
-use Rattle.std.specs.List.{list_all, cons_option}
+use Rattle.std.proofs.Common.{◌≡◌, ℕ, zero, suc, ◌+◌, ◌-◌, ◌<◌, Bool, true, false, cond, not, ◌&&◌, ◌||◌, eqb, List, [], ◌∷◌, ◌++◌, length, None, Some, refl, sym, ap, ◌∙◌, arith, inl, inr, ne_eqb, append_assoc, length-append}
+use Rattle.std.specs.List.{list_all}
 use Rattle.std.proofs.lemmas.Bool.{cases_eq, cases_lt, and_parts, agree_below_at, eq-eqb}
 use Rattle.std.proofs.lemmas.Bool.Decides.{nat_tests}
 use Rattle.wp_lex.specs.declared.item.Item.{Item}
@@ -14,9 +14,9 @@ use Rattle.wp_lex.specs.declared.place.Place.{Place}
 use Rattle.wp_lex.specs.Words.{class_of, is_letter, is_separator, is_word_byte, word_of, IsWord}
 use Rattle.wp_lex.specs.Places.{place_behind}
 use Rattle.wp_lex.specs.Faults.{outside_fault}
-use Rattle.wp_lex.specs.Trees.{Trees, Leaf, Branch, End, Then, trees_of}
+use Rattle.wp_lex.specs.Trees.{End, Then, trees_of}
 use Rattle.wp_lex.specs.Lists.{spelled, spelled_tree}
-use Rattle.wp_lex.specs.Written.{Form, Alone, Listed, Forms, NoMore, Behind, form_text, forms_text, tree_at, trees_at, IsForm, AreForms, IsReadAs, WrittenListsAreRead}
+use Rattle.wp_lex.specs.Written.{Form, Alone, Listed, Forms, NoMore, Behind, form_text, forms_text, tree_at, trees_at, IsForm, AreForms, WrittenListsAreRead}
 use Rattle.wp_lex.proofs.Pass.{Pass, pass, goes_on, or_later, passed_byte, texts_are_passed}
 use Rattle.wp_lex.proofs.Spelling.{lists_are_read}
 use Rattle.wp_lex.proofs.WordBytes.{word_byte-class, word_of-ended}
