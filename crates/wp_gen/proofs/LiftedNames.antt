@@ -53,7 +53,8 @@ known_new names name =
     ∙ (λ j. is_known names name || (same_self name j || false))
     ∙ or_true (is_known names name)
 
-found_place : (name : List ℕ) (names : List (List ℕ)) → is_known names name ≡ true → position_or_len (is_same_args name) names < length names
+found_place : (name : List ℕ) (names : List (List ℕ)) → is_known names name ≡ true
+    → position_or_len (is_same_args name) names < length names
 found_place name [] e = cc
 found_place name (first ∷ names) e =
     elim (is_same_args name first) as (λ b. (b || is_known names name) ≡ true
@@ -69,7 +70,8 @@ found names name e =
     let test : ltb place (length names) ≡ true = grind (arith, nat_tests) in
     (place, (λ j. cond (test j) (Some place) None))
 
-unfound_place : (name : List ℕ) (names : List (List ℕ)) → is_known names name ≡ false → position_or_len (is_same_args name) names ≡ length names
+unfound_place : (name : List ℕ) (names : List (List ℕ)) → is_known names name ≡ false
+    → position_or_len (is_same_args name) names ≡ length names
 unfound_place name [] e = refl
 unfound_place name (first ∷ names) e =
     elim (is_same_args name first) as (λ b. (b || is_known names name) ≡ false

@@ -140,9 +140,11 @@ items_text : (objects init goals : Forms)
 items_text objects init goals =
     ap (λ (text : List ℕ). title ++ text)
     (append_assoc
-    (form_text (Listed (codes ":objects") objects) ++ 10 ∷ (form_text (Listed (codes ":init") init) ++ 10 ∷ (form_text (Listed (codes ":goal") (Behind 32 (Listed (codes "and") goals) NoMore)) ++ [])))
+    (form_text (Listed (codes ":objects") objects) ++ 10 ∷ (form_text (Listed (codes ":init") init)
+    ++ 10 ∷ (form_text (Listed (codes ":goal") (Behind 32 (Listed (codes "and") goals) NoMore)) ++ [])))
     (41 ∷ []) (10 ∷ [])
-    ∙ joined (codes "(:objects") (codes "(:init") (codes "(:goal") (codes " ") (codes "(and") (forms_text objects) (forms_text init) (forms_text goals) (41 ∷ []) (10 ∷ []))
+    ∙ joined (codes "(:objects") (codes "(:init") (codes "(:goal") (codes " ") (codes "(and")
+    (forms_text objects) (forms_text init) (forms_text goals) (41 ∷ []) (10 ∷ []))
 
 pub text_is_line : (number size : ℕ) → problem_text number size ≡ form_text (Listed (codes "define") (problem_items number size)) ++ 10 ∷ []
 unfolding problem_text
@@ -187,7 +189,8 @@ ats_are depth size place few within =
 
 objects_are : (size : ℕ) → size ≤ 64 → AreForms 62 (object_forms size)
 objects_are size few =
-    each_are put_place 62 size (λ k rest lt are. (refl, place_word k (omega arith), are)) 0 size (each_from put_parcel 0 size NoMore) (omega arith)
+    each_are put_place 62 size (λ k rest lt are. (refl, place_word k (omega arith), are)) 0 size
+    (each_from put_parcel 0 size NoMore) (omega arith)
     (each_are put_parcel 62 size (λ k rest lt are. (refl, parcel_word k (omega arith), are)) 0 size NoMore (omega arith) tt)
 
 init_are : (size : ℕ) (place : ℕ → ℕ) → size ≤ 64 → ((k : ℕ) → place k < size) → AreForms 62 (init_forms size place)

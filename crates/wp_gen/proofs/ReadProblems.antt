@@ -232,7 +232,8 @@ entries a b c d e f g h o i l objects init goal reads_o reads_i reads_l =
     ∙ entry_then (record titled { objects = Some objects; init = Some init })
     (record titled { objects = Some objects; init = Some init; goal = Some goal })
     (Branch e (Then (Leaf (codes ":goal") f) (Then (Branch g (Then (Leaf (codes "and") h) l)) End))) End
-    (ap (λ (read : Read (List AtomText)). (read >>= λ goal. fine goal) >>= λ goal. fine (record titled { objects = Some objects; init = Some init; goal = Some goal })) reads_l)
+    (ap (λ (read : Read (List AtomText)). (read >>= λ goal. fine goal)
+    >>= λ goal. fine (record titled { objects = Some objects; init = Some init; goal = Some goal })) reads_l)
 
 abbrev checked : Entries → Read Entries
 checked entries = complete_of 0 entries >> fine entries

@@ -81,7 +81,8 @@ naming_by preds names = record { part = parts.Problem; preds = preds; objects = 
 -- the rest of the walk, from what was met so far
 abbrev behind_opening : Domain → Problem → List Pred → List (List ℕ) → Known → List TypedSchema → List GroundAtom → Walk Lifting
 behind_opening domain problem preds types known schemas opening =
-    each (ground_atom_of (naming_by preds known.names)) problem.goal >>= λ goals. fine (lifting domain preds types known schemas opening goals)
+    each (ground_atom_of (naming_by preds known.names)) problem.goal
+    >>= λ goals. fine (lifting domain preds types known schemas opening goals)
 
 abbrev behind_schemas : Domain → Problem → List Pred → List (List ℕ) → Known → List TypedSchema → Walk Lifting
 behind_schemas domain problem preds types known schemas =
@@ -93,7 +94,8 @@ behind_objects domain problem preds types known =
 
 abbrev behind_types : Domain → Problem → List Pred → List Typed → List (List ℕ) → Walk Lifting
 behind_types domain problem preds constants types =
-    (each_after (object_of parts.Domain types) no_objects constants >>= λ known. each_after (object_of parts.Problem types) known problem.objects)
+    (each_after (object_of parts.Domain types) no_objects constants
+    >>= λ known. each_after (object_of parts.Problem types) known problem.objects)
     >>= behind_objects domain problem preds types
 
 in_parts : (domain : Domain) (problem : Problem)
@@ -122,8 +124,11 @@ lifts domain problem known are =
     ∙ (λ j. are.types_are j >>= behind_types domain problem (are.preds_are j) (are.constants_are j))
     ∙ ap (λ (walk : Walk Known). walk >>= behind_objects domain problem depot_preds object_types) are.objects_are
     ∙ ap (λ (walk : Walk (List TypedSchema)). walk >>= behind_schemas domain problem depot_preds object_types known) are.schemas_are
-    ∙ ap (λ (walk : Walk (List GroundAtom)). walk >>= behind_opening domain problem depot_preds object_types known are.schemas) are.opening_is
-    ∙ ap (λ (walk : Walk (List GroundAtom)). walk >>= λ goals. fine (lifting domain depot_preds object_types known are.schemas are.opening goals)) are.goals_are
+    ∙ ap (λ (walk : Walk (List GroundAtom)). walk >>= behind_opening domain problem depot_preds object_types known are.schemas)
+    are.opening_is
+    ∙ ap (λ (walk : Walk (List GroundAtom)). walk
+    >>= λ goals. fine (lifting domain depot_preds object_types known are.schemas are.opening goals))
+    are.goals_are
 
 below : (bound x : ℕ) → 1 ≤ bound → drawn_below bound x < bound
 below bound x some = mod_below (x / 2 ^ 33) bound some
