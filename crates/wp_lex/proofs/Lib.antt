@@ -10,3 +10,4 @@ pub mod PlanFaults
 pub mod Pass
 pub mod WordBytes
 pub mod LeafWords
+pub mod WrittenLists

@@ -8,3 +8,4 @@ pub mod Node
 pub mod Lists
 pub mod Leaves
 pub mod Rising
+pub mod Written

@@ -5,6 +5,7 @@ ghost use Rattle.wp_lex.specs.Faults.{FaultsAreFirst};
 ghost use Rattle.wp_lex.specs.Lists.{TextsAreLists, PlansAreLists, ListsAreRead};
 ghost use Rattle.wp_lex.specs.Leaves.{LeavesAreWords};
 ghost use Rattle.wp_lex.specs.Rising.{TextsRise, PlansRise};
+ghost use Rattle.wp_lex.specs.Written.{WrittenListsAreRead};
 
 /// The word from a place where a letter follows none is a longest run of letters outside comments.
 pub fn words_are_runs()
@@ -29,6 +30,11 @@ pub fn plans_are_lists()
 /// Trees that are spelled out as brackets and words are read back.
 pub fn lists_are_read()
     ensures { ListsAreRead }
+{}
+
+/// A list that is written out, a separator before each thing behind its first word, has no fault and is read as that list.
+pub fn written_lists_are_read()
+    ensures { WrittenListsAreRead }
 {}
 
 /// The places of the trees of a text rise from the left to the right.

@@ -26,7 +26,7 @@ pub use error::LexError;
 pub use item::{Item, Items};
 pub use laws::{
     faults_are_first, leaves_are_words, lists_are_read, plans_are_lists, plans_rise,
-    texts_are_lists, texts_rise, words_are_runs,
+    texts_are_lists, texts_rise, words_are_runs, written_lists_are_read,
 };
 pub use node::{Node, next};
 pub use tree::{Tree, Trees, read_steps, read_tree};
