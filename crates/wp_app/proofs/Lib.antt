@@ -16,3 +16,4 @@ pub mod AnswerLaws
 pub mod EndLemmas
 pub mod StatusLaws
 pub mod MeaningLaws
+pub mod GeneratedLaws

@@ -7,3 +7,4 @@ pub mod Puts
 pub mod Headline
 pub mod Laws
 pub mod Meanings
+pub mod Generated

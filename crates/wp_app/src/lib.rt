@@ -10,6 +10,7 @@
 mod check;
 mod fetch;
 mod generate;
+mod generated;
 mod ground;
 mod inputs;
 mod laws;
@@ -22,6 +23,7 @@ mod run;
 mod shown;
 mod stop;
 
+pub use generated::made_tasks_are_not_refused;
 pub use laws::{
     answers_of_no_plan_are_true, done_answers_are_valid_plans, emptied_searches_have_no_plan,
     found_plans_are_read_back, goals_out_of_reach_have_no_plan, large_limits_are_not_reached,
