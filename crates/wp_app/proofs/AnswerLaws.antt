@@ -41,7 +41,8 @@ use Rattle.wp_watch.specs.Places.{texts_after}
 use Rattle.wp_words.specs.declared.commands.Command.TheVariants.{Plan}
 use Rattle.wp_app.specs.Requests.{Asked, Request, kept_of}
 use Rattle.wp_app.specs.Steps.{Step, goes, reply_of, ◌>>=◌}
-use Rattle.wp_app.specs.Output.{answer_of, run_step, files_planned_step, texts_step, lifted_step, planned_step, grounded_step, searched_reply, whole, with_texts, ending_reply, ending_status}
+use Rattle.wp_app.specs.Output.{run_step, files_planned_step, texts_step, lifted_step, planned_step, grounded_step, searched_reply, whole, with_texts, ending_reply, ending_status}
+use Rattle.wp_app.specs.Table.{answer_of}
 use Rattle.wp_app.specs.Laws.{IsLifted, IsSearched, FoundPlansAreReadBack, GoalsOutOfReachHaveNoPlan, EmptiedSearchesHaveNoPlan, SearchesAreBounded, LargeBudgetsAreNotSpent, LargeLimitsAreNotReached}
 use Rattle.wp_app.proofs.ReplyLemmas.{steps_commanded}
 use Rattle.wp_app.proofs.ChainLemmas.{texts_read, lifted_finely, task_goes, admitted, out_of_reach}

@@ -18,7 +18,8 @@ use Rattle.wp_syntax.specs.Reading.{Wrong, fine as read_fine}
 use Rattle.wp_syntax.specs.Domains.{domain_of}
 use Rattle.wp_syntax.specs.Problems.{problem_of}
 use Rattle.wp_lift.specs.Problem.{Lifting}
-use Rattle.wp_lift.specs.Walk.{Fault, fine as lifted_fine}
+use Rattle.wp_lift.specs.declared.fault.Fault.{Fault}
+use Rattle.wp_lift.specs.Walk.{fine as lifted_fine}
 use Rattle.wp_lift.specs.Lifting.{lifting_of}
 use Rattle.wp_lift.specs.Worlds.{among, unmet_goal}
 use Rattle.wp_ground.specs.declared.grounding.Grounded.{Grounded}
@@ -44,7 +45,7 @@ recorded : {A : Type 0} (part : Part) (faults : List Wrong) (value found : A) �
 recorded part [] value found e = let same : value ≡ found = cc in (refl, same)
 recorded part (fault ∷ faults) value found e = cc
 
-itemized : (part : Part) (fault : Option LexError) (items found : List Item) → items_by part fault items ≡ goes found → items ≡ found
+pub itemized : (part : Part) (fault : Option LexError) (items found : List Item) → items_by part fault items ≡ goes found → items ≡ found
 itemized part None items found e = cc
 itemized part (Some fault) items found e = cc
 

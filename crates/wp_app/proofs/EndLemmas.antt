@@ -16,7 +16,7 @@ use Rattle.wp_syntax.specs.Reading.{Wrong}
 use Rattle.wp_syntax.specs.Domains.{domain_of}
 use Rattle.wp_syntax.specs.Problems.{problem_of}
 use Rattle.wp_lift.specs.Problem.{Lifting}
-use Rattle.wp_lift.specs.Walk.{Fault}
+use Rattle.wp_lift.specs.declared.fault.Fault.{Fault}
 use Rattle.wp_lift.specs.Lifting.{lifting_of}
 use Rattle.wp_report.specs.Inputs.{too_long_text}
 use Rattle.wp_app.specs.declared.reply.Reply.{Reply}

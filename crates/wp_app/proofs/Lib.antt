@@ -1,12 +1,9 @@
 pub mod FetchLemmas
 pub mod PutLemmas
+pub mod TableLemmas
 pub mod ReplyLemmas
 pub mod HeadlineLemmas
 pub mod StepLemmas
-mod Rows
-mod SearchRows
-mod NumberedRows
-mod AnswerRows
 pub mod ReadLemmas
 pub mod GroundLemmas
 pub mod PlanLemmas
@@ -17,3 +14,6 @@ pub mod EndLemmas
 pub mod StatusLaws
 pub mod MeaningLaws
 pub mod GeneratedLaws
+pub mod CauseLaws
+pub mod WordLaws
+pub mod MissingLaws

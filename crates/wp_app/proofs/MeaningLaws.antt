@@ -7,7 +7,7 @@ use Rattle.wp_syntax.specs.declared.error.Part.TheVariants as parts
 use Rattle.wp_lift.specs.Problem.{Lifting}
 use Rattle.wp_lift.specs.Worlds.{is_valid}
 use Rattle.wp_lift.specs.Formed.{IsFormed}
-use Rattle.wp_lift.proofs.FormedLemmas.{made-formed}
+use Rattle.wp_lift.specs.Laws.{LiftingsAreFormed}
 use Rattle.wp_task.specs.Task.{is_plan}
 use Rattle.wp_check.specs.declared.step.Step.{Step as PlanStep}
 use Rattle.wp_check.specs.declared.cause.Verdict.{Verdict}
@@ -45,25 +45,26 @@ use Rattle.wp_app.proofs.AnswerLaws.{valid_in_task}
 use Rattle.wp_app.proofs.ChainLemmas.{admitted, lifted_finely, never_memory, out_of_reach, task_goes}
 use Rattle.wp_app.proofs.EndLemmas.{AllowsRefusals, EndsIn, goes_past, lifted_ends, made_ends, steps_end, texts_ends}
 use Rattle.wp_app.proofs.ReplyLemmas.{request_with, steps_commanded}
+use Rattle.wp_app.proofs.TableLemmas.{in_two}
 
-abbrev Watching : Type 0
+abbrev pub Watching : Type 0
 Watching = List (WatchKind × Option ℕ)
 
 -- ---- the steps of a command
 -- what is answered where there is a task
-abbrev final : Watching → Command → Grounded → Reply
+abbrev pub final : Watching → Command → Grounded → Reply
 final watchers (Check domain problem plan) grounded = ground_reply grounded
 final watchers (Ground domain problem) grounded = ground_reply grounded
 final watchers (Plan domain problem settings watch plain) grounded = searched_reply whole settings watchers grounded
 final watchers (Gen number size settings watch plain) grounded = searched_reply (named number size) settings watchers grounded
 
-abbrev after_lifting : Watching → Command → Lifting → Step Reply
+abbrev pub after_lifting : Watching → Command → Lifting → Step Reply
 after_lifting watchers command lifted = grounded_step lifted >>= λ (grounded : Grounded). goes (final watchers command grounded)
 
-abbrev after_texts : Watching → Command → Texts → Step Reply
+abbrev pub after_texts : Watching → Command → Texts → Step Reply
 after_texts watchers command texts = lifted_step texts.domain texts.problem >>= λ (lifted : Lifting). after_lifting watchers command lifted
 
-run_grounding : (command : Command) (watchers : Watching) (files : Contents) → grounds_task command ≡ true
+pub run_grounding : (command : Command) (watchers : Watching) (files : Contents) → grounds_task command ≡ true
     → run_step (request_with command watchers) files ≡ (texts_of command files >>= λ (texts : Texts). after_texts watchers command texts)
 unfolding run_step files_numbered_step numbered_step files_planned_step planned_step generated_step
 run_grounding (Check domain problem plan) watchers files e = cc
@@ -71,20 +72,14 @@ run_grounding (Ground domain problem) watchers files e = refl
 run_grounding (Plan domain problem settings watch plain) watchers files e = refl
 run_grounding (Gen number size settings watch plain) watchers files e = refl
 
-abbrev judged : Lifting → List PlanStep → Step Reply
+abbrev pub judged : Lifting → List PlanStep → Step Reply
 judged lifted steps = goes (verdict_reply lifted steps)
 
-abbrev after_steps : Texts → List PlanStep → Step Reply
+abbrev pub after_steps : Texts → List PlanStep → Step Reply
 after_steps texts steps = lifted_step texts.domain texts.problem >>= λ (lifted : Lifting). judged lifted steps
 
 -- reading a plan file, and what follows
-in_two : {A B C : Type 0} (first : Step A) (second : A → Step B) (next : B → Step C)
-    → (first >>= λ (one : A). second one >>= next) ≡ ((first >>= second) >>= next)
-in_two missing second next = refl
-in_two (ends reply) second next = refl
-in_two (goes value) second next = refl
-
-run_checking : (domain problem plan : List ℕ) (watchers : Watching) (files : Contents)
+pub run_checking : (domain problem plan : List ℕ) (watchers : Watching) (files : Contents)
     → run_step (request_with (Check domain problem plan) watchers) files
     ≡ (texts_step domain problem files >>= λ (texts : Texts). (part_of parts.Plan plan files >>= plan_step) >>= after_steps texts)
 unfolding run_step files_checked_step check_step judged_step
@@ -92,17 +87,17 @@ run_checking domain problem plan watchers files =
     λ i. texts_step domain problem files >>= λ (texts : Texts). in_two (part_of parts.Plan plan files) plan_step (after_steps texts) i
 
 -- the answer is the reply of the command's steps
-replied : (asked : Asked) (files : Contents) (command : Command) (reply : Reply) → IsAnswered asked files command reply
+pub replied : (asked : Asked) (files : Contents) (command : Command) (reply : Reply) → IsAnswered asked files command reply
     → reply_of (run_step (request_with command (kept_of command asked.watchers)) files) ≡ Some reply
 replied asked files command reply is = sym (ap reply_of (steps_commanded asked command files is.named)) ∙ is.answer
 
-replied_grounding : (asked : Asked) (files : Contents) (command : Command) (reply : Reply) → IsAnswered asked files command reply
+pub replied_grounding : (asked : Asked) (files : Contents) (command : Command) (reply : Reply) → IsAnswered asked files command reply
     → grounds_task command ≡ true
     → reply_of (texts_of command files >>= λ (texts : Texts). after_texts (kept_of command asked.watchers) command texts) ≡ Some reply
 replied_grounding asked files command reply is does =
     sym (ap reply_of (run_grounding command (kept_of command asked.watchers) files does)) ∙ replied asked files command reply is
 
-replied_checking : (asked : Asked) (files : Contents) (domain problem plan : List ℕ) (reply : Reply) → IsAnswered asked files (Check domain problem plan) reply
+pub replied_checking : (asked : Asked) (files : Contents) (domain problem plan : List ℕ) (reply : Reply) → IsAnswered asked files (Check domain problem plan) reply
     → reply_of (texts_step domain problem files >>= λ (texts : Texts). (part_of parts.Plan plan files >>= plan_step) >>= after_steps texts) ≡ Some reply
 replied_checking asked files domain problem plan reply is =
     sym (ap reply_of (run_checking domain problem plan (kept_of (Check domain problem plan) asked.watchers) files))
@@ -116,12 +111,12 @@ command_ends P early (Gen number size settings watch plain) files = made_ends P 
 
 -- ---- a lifted problem
 -- an answer whose status is not that of a refusal is one of a lifted problem
-record Grounding (files : Contents) (command : Command) (watchers : Watching) (reply : Reply) : Type 0 where
-  lifted : Lifting
-  lifts : AreLifted files command lifted
-  replies : reply_of (after_lifting watchers command lifted) ≡ Some reply
+pub record Grounding (files : Contents) (command : Command) (watchers : Watching) (reply : Reply) : Type 0 where
+  pub lifted : Lifting
+  pub lifts : AreLifted files command lifted
+  pub replies : reply_of (after_lifting watchers command lifted) ≡ Some reply
 
-grounding : (P : Status → Type 0) → AllowsRefusals P → (asked : Asked) (files : Contents) (command : Command) (reply : Reply)
+pub grounding : (P : Status → Type 0) → AllowsRefusals P → (asked : Asked) (files : Contents) (command : Command) (reply : Reply)
     → IsAnswered asked files command reply → grounds_task command ≡ true → (P reply.status → ⊥)
     → Grounding files command (kept_of command asked.watchers) reply
 grounding P early asked files command reply is does other =
@@ -136,7 +131,7 @@ grounding P early asked files command reply is does other =
     }
 
 -- and from a lifted problem the answer goes on so
-lifted_replies : (asked : Asked) (files : Contents) (command : Command) (reply : Reply) (lifted : Lifting) → IsAnswered asked files command reply
+pub lifted_replies : (asked : Asked) (files : Contents) (command : Command) (reply : Reply) (lifted : Lifting) → IsAnswered asked files command reply
     → grounds_task command ≡ true → AreLifted files command lifted → reply_of (after_lifting (kept_of command asked.watchers) command lifted) ≡ Some reply
 lifted_replies asked files command reply lifted is does lifts =
     let watchers = kept_of command asked.watchers in
@@ -144,9 +139,9 @@ lifted_replies asked files command reply lifted is does lifts =
     ∙ ap (λ (step : Step Lifting). reply_of (step >>= λ (one : Lifting). after_lifting watchers command one)) lifts.lifts)
     ∙ replied_grounding asked files command reply is does
 
-formed_of : (files : Contents) (command : Command) (lifted : Lifting) → AreLifted files command lifted → IsFormed lifted
-formed_of files command lifted lifts =
-    made-formed lifts.texts.domain lifts.texts.problem lifted (lifted_finely lifts.texts.domain lifts.texts.problem lifted lifts.lifts)
+formed_of : LiftingsAreFormed → (files : Contents) (command : Command) (lifted : Lifting) → AreLifted files command lifted → IsFormed lifted
+formed_of formed files command lifted lifts =
+    formed lifts.texts.domain lifts.texts.problem lifted (lifted_finely lifts.texts.domain lifts.texts.problem lifted lifts.lifts)
 
 -- ---- endings
 searches : (command : Command) (settings : Settings) → settings_of command ≡ Some settings → grounds_task command ≡ true
@@ -174,12 +169,12 @@ task_ends P early reach memory (Some TooManyAtoms) made = early.limit
 task_ends P early reach memory (Some (GoalOutOfReach goal atom)) made = reach
 task_ends P early reach memory (Some Memory) made = memory
 
-grounded_ends : (P : Status → Type 0) → AllowsRefusals P → P statuses.OutOfReach → P statuses.Memory → (lifted : Lifting)
+pub grounded_ends : (P : Status → Type 0) → AllowsRefusals P → P statuses.OutOfReach → P statuses.Memory → (lifted : Lifting)
     → EndsIn {A = Grounded} P (grounded_step lifted)
 unfolding grounded_step
 grounded_ends P early reach memory lifted = task_ends P early reach memory (refusal_of lifted) (grounded_of lifted)
 
-reply_is : (one other : Reply) → reply_of (goes one) ≡ Some other → one ≡ other
+pub reply_is : (one other : Reply) → reply_of (goes one) ≡ Some other → one ≡ other
 reply_is one other e = cc
 
 ended_status : (status : Status) (text : List ℕ) (reply : Reply)
@@ -297,10 +292,10 @@ emptied_of KBfws Emptied e = cc
 emptied_of search Budget e = cc
 emptied_of search (Words pairs) e = cc
 
-emptied_none : EmptiedHasNoPlan → PlansAreValid → ValidPlansAreNumbered → (files : Contents) (command : Command) (settings : Settings) (ending : Ending)
+emptied_none : LiftingsAreFormed → EmptiedHasNoPlan → PlansAreValid → ValidPlansAreNumbered → (files : Contents) (command : Command) (settings : Settings) (ending : Ending)
     → EndsSo files command settings ending → settings.search ≡ F5 → ending.how ≡ Emptied → HaveNoPlan files command
-emptied_none emptied plans_are_valid numbered files command settings ending so f5 how =
-    let formed = formed_of files command so.lifted so.lifts in
+emptied_none forms emptied plans_are_valid numbered files command settings ending so f5 how =
+    let formed = formed_of forms files command so.lifted so.lifts in
     let task = task_goes so.lifted so.grounded so.grounds in
     let goals = (admitted so.lifted task.0).all_reached in
     let none : (plan : List ℕ) → is_plan (task_of so.lifted) plan ≡ false =
@@ -320,18 +315,18 @@ grounding_out (Ground domain problem) e = refl
 grounding_out (Plan domain problem settings watch plain) e = refl
 grounding_out (Gen number size settings watch plain) e = refl
 
-pub no_plan : EndingsHaveTheirStatuses → UnreachedGoalsAreAnswered → AnswersAreOfTheirCommands → EmptiedHasNoPlan → PlansAreValid → ValidPlansAreNumbered
-    → UnreachedGoalsHaveNoPlan → NoPlanIsTrue
-no_plan endings unreached of emptied plans_are_valid numbered none asked files command reply is (inl says) =
+pub no_plan : EndingsHaveTheirStatuses → UnreachedGoalsAreAnswered → AnswersAreOfTheirCommands → LiftingsAreFormed → EmptiedHasNoPlan → PlansAreValid
+    → ValidPlansAreNumbered → UnreachedGoalsHaveNoPlan → NoPlanIsTrue
+no_plan endings unreached of forms emptied plans_are_valid numbered none asked files command reply is (inl says) =
     let may : is_of command statuses.NoPlan ≡ true = sym (ap (is_of command) says) ∙ of asked files command reply is in
     let asks = searching command may in
     let end = (endings asked files command asks.0 reply is asks.1).0 (ap is_of_ending says) in
     let how = emptied_of asks.0.search end.0.how (end.2 ∙ says) in
-    emptied_none emptied plans_are_valid numbered files command asks.0 end.0 end.1 how.0 how.1
-no_plan endings unreached of emptied plans_are_valid numbered none asked files command reply is (inr out) =
+    emptied_none forms emptied plans_are_valid numbered files command asks.0 end.0 end.1 how.0 how.1
+no_plan endings unreached of forms emptied plans_are_valid numbered none asked files command reply is (inr out) =
     let may : is_of command statuses.OutOfReach ≡ true = sym (ap (is_of command) out) ∙ of asked files command reply is in
     let cause = (unreached asked files command reply is (grounding_out command may)).0 out in
-    (cause.0, cause.1, none cause.0 (formed_of files command cause.0 cause.1) (out_of_reach cause.0 cause.2 cause.3 cause.4))
+    (cause.0, cause.1, none cause.0 (formed_of forms files command cause.0 cause.1) (out_of_reach cause.0 cause.2 cause.3 cause.4))
 
 -- ---- which statuses
 -- the step replies with one of these statuses

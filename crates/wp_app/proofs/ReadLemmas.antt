@@ -11,6 +11,7 @@ use Rattle.wp_syntax.specs.declared.error.PddlError.TheVariants as errors
 use Rattle.wp_syntax.specs.Reading.{Wrong, IsRefusal, refusal_at}
 use Rattle.wp_lift.specs.Problem.{Lifting}
 use Rattle.wp_lift.specs.Walk as walks
+use Rattle.wp_lift.specs.declared.fault.Fault.{Fault}
 use Rattle.wp_check.specs.declared.step.Step.{Step as PlanStep}
 use Rattle.wp_check.specs.declared.step.PlanError.{PlanError}
 use Rattle.wp_check.specs.declared.step.PlanError.TheVariants as plans
@@ -49,22 +50,23 @@ pub refused_items : (part : Part) (error : LexError) (fault : Option LexError) (
 refused_items part error fault items h is = ap (λ (f : Option LexError). items_by part f items) (explained error fault h is)
 
 -- the first fault of a list is the one that is told
-refused_first : {A : Type 0} (part told : Part) (fault wrong : Wrong) (faults : List Wrong) (value : A) → told ≡ part → Some fault ≡ Some wrong → record_by part (fault ∷ faults) value ≡ refused (pddl_text (refusal_at told wrong))
-refused_first part told fault wrong faults value same e =
+refused_first : {A : Type 0} (part : Part) (fault wrong : Wrong) (faults : List Wrong) (value : A) → Some fault ≡ Some wrong → record_by part (fault ∷ faults) value ≡ refused (pddl_text (refusal_at part wrong))
+refused_first part fault wrong faults value e =
     let p : fault ≡ wrong = cc in
-    λ i. refused (pddl_text (refusal_at (sym same i) (p i)))
+    λ i. refused (pddl_text (refusal_at part (p i)))
 
 pub refused_record : {A : Type 0} (part : Part) (error : PddlError) (faults : List Wrong) (value : A) → IsRefusal part faults error → error ≢ errors.Memory → record_by part faults value ≡ refused (pddl_text error)
 refused_record part errors.Memory faults value h is = absurd (is refl)
-refused_record part (errors.Bad told kind at) [] value h is = let no = h.1 in cc
-refused_record part (errors.Bad told kind at) (fault ∷ faults) value h is = refused_first part told fault (record { kind = kind; at = at }) faults value h.0 h.1
+refused_record part (errors.Bad told kind at) [] value (wrong, e, same) is = cc
+refused_record part (errors.Bad told kind at) (fault ∷ faults) value (wrong, e, same) is =
+    refused_first part fault wrong faults value e ∙ ap (λ error. refused (pddl_text error)) (sym same)
 
-refused_fault : (fault wrong : walks.Fault) (faults : List walks.Fault) (value : Lifting) → Some fault ≡ Some wrong → lifted_by (fault ∷ faults) value ≡ refused (pddl_text (errors.Bad wrong.part wrong.kind wrong.at))
+refused_fault : (fault wrong : Fault) (faults : List Fault) (value : Lifting) → Some fault ≡ Some wrong → lifted_by (fault ∷ faults) value ≡ refused (pddl_text (errors.Bad wrong.part wrong.kind wrong.at))
 refused_fault fault wrong faults value e =
     let p : fault ≡ wrong = cc in
-    ap (λ (f : walks.Fault). lifted_by (f ∷ faults) value) p
+    ap (λ (f : Fault). lifted_by (f ∷ faults) value) p
 
-pub refused_lifting : (error : PddlError) (faults : List walks.Fault) (value : Lifting) → walks.Fails error faults → error ≢ errors.Memory → lifted_by faults value ≡ refused (pddl_text error)
+pub refused_lifting : (error : PddlError) (faults : List Fault) (value : Lifting) → walks.Fails error faults → error ≢ errors.Memory → lifted_by faults value ≡ refused (pddl_text error)
 refused_lifting errors.Memory faults value h is = absurd (is refl)
 refused_lifting (errors.Bad part kind at) [] value h is = cc
 refused_lifting (errors.Bad part kind at) (fault ∷ faults) value h is = refused_fault fault (record { part = part; kind = kind; at = at }) faults value h

@@ -23,7 +23,9 @@ use Rattle.wp_watch.specs.Places.{AreAfter, Place}
 use Rattle.wp_app.specs.Requests.{Asked, Request, request_of, request_from, keeps_kind, kept_of, file_of}
 use Rattle.wp_app.specs.Statuses.{is_defined, is_of_files}
 use Rattle.wp_report.specs.Inputs.{read_fault_text, usage_text}
-use Rattle.wp_app.specs.Output.{answered, command_step, request_step, run_step, steps_of}
+use Rattle.wp_app.specs.Output.{answered, command_step, request_step, run_step}
+use Rattle.wp_app.specs.Table.{answer_sought}
+use Rattle.wp_app.proofs.TableLemmas.{in_rows}
 use Rattle.wp_app.specs.Stops.{Follows, IfUnread}
 use Rattle.wp_app.specs.Headline.{IsReached, IsReply, IsReplyTo, IsUsageOf, ShelfFailed}
 
@@ -31,12 +33,12 @@ use Rattle.wp_app.specs.Headline.{IsReached, IsReply, IsReplyTo, IsUsageOf, Shel
 abbrev begun : Option Request → Step Request
 begun found = elim found [ Some request ↦ goes request | None ↦ answered statuses.Usage usage_text ]
 
-steps_begun : (asked : Asked) (files : Contents) → steps_of asked files ≡ (begun (request_of asked) >>= λ (request : Request). run_step request files)
-unfolding steps_of request_step
-steps_begun asked files = refl
+steps_begun : (asked : Asked) (files : Contents) → answer_sought asked files ≡ (begun (request_of asked) >>= λ (request : Request). run_step request files)
+unfolding answer_sought request_step run_step
+steps_begun asked files = λ i. begun (request_of asked) >>= λ (request : Request). in_rows request.watchers request.command files i
 
 -- the steps of what is asked are those of its request
-pub steps_named : (asked : Asked) (request : Request) (files : Contents) → request_of asked ≡ Some request → steps_of asked files ≡ run_step request files
+pub steps_named : (asked : Asked) (request : Request) (files : Contents) → request_of asked ≡ Some request → answer_sought asked files ≡ run_step request files
 steps_named asked request files e = steps_begun asked files ∙ ap (λ (found : Option Request). begun found >>= λ (one : Request). run_step one files) e
 
 -- a command with watchers
@@ -47,10 +49,10 @@ request_with command watchers = record { command = command; watchers = watchers 
 abbrev pub request_for : Asked → Command → Request
 request_for asked command = record { command = command; watchers = kept_of command asked.watchers }
 
-pub steps_commanded : (asked : Asked) (command : Command) (files : Contents) → command_of asked.words ≡ Some command → steps_of asked files ≡ run_step (request_for asked command) files
+pub steps_commanded : (asked : Asked) (command : Command) (files : Contents) → command_of asked.words ≡ Some command → answer_sought asked files ≡ run_step (request_for asked command) files
 steps_commanded asked command files e = steps_named asked (request_for asked command) files (ap (request_from asked.watchers) e)
 
-steps_unnamed : (asked : Asked) (files : Contents) → command_of asked.words ≡ None → steps_of asked files ≡ answered statuses.Usage usage_text
+pub steps_unnamed : (asked : Asked) (files : Contents) → command_of asked.words ≡ None → answer_sought asked files ≡ answered statuses.Usage usage_text
 steps_unnamed asked files e = steps_begun asked files ∙ ap (λ (found : Option Command). begun (request_from asked.watchers found) >>= λ (one : Request). run_step one files) e
 
 of_files_defined : (status : Status) → IsTrue (is_of_files status) → is_defined status ≡ true

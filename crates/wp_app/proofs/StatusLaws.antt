@@ -24,7 +24,8 @@ use Rattle.wp_watch.specs.declared.watch.WatchKind.{WatchKind}
 use Rattle.wp_words.specs.declared.commands.Command.TheVariants.{Plan}
 use Rattle.wp_app.specs.Requests.{Asked, kept_of}
 use Rattle.wp_app.specs.Steps.{Step, ends, goes, reply_of, ◌>>=◌}
-use Rattle.wp_app.specs.Output.{answer_of, texts_step, lifted_step, task_by, grounded_step, files_planned_step, planned_step, run_step, searched_reply, whole, ending_reply, ending_status}
+use Rattle.wp_app.specs.Output.{texts_step, lifted_step, task_by, grounded_step, files_planned_step, planned_step, run_step, searched_reply, whole, ending_reply, ending_status}
+use Rattle.wp_app.specs.Table.{answer_of}
 use Rattle.wp_app.specs.Laws.{IsLifted, IsSearched, IsPlanned, IsReadAs, HasNoPlan, FoundPlansAreReadBack, GoalsOutOfReachHaveNoPlan, EmptiedSearchesHaveNoPlan, DoneAnswersAreValidPlans, AnswersOfNoPlanAreTrue}
 use Rattle.wp_app.proofs.ReplyLemmas.{steps_commanded}
 use Rattle.wp_app.proofs.EndLemmas.{AllowsRefusals, EndsIn, goes_past, lifted_ends, texts_ends}

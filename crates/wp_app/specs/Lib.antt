@@ -1,6 +1,7 @@
 pub mod Steps
 pub mod Requests
 pub mod Output
+pub mod Table
 pub mod Statuses
 pub mod Stops
 pub mod Puts
@@ -8,3 +9,4 @@ pub mod Headline
 pub mod Laws
 pub mod Meanings
 pub mod Generated
+pub mod Causes

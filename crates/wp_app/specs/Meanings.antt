@@ -27,7 +27,8 @@ use Rattle.wp_words.specs.declared.commands.Command.TheVariants.{Check, Gen, Gro
 use Rattle.wp_words.specs.Words.{command_of}
 use Rattle.wp_app.specs.Requests.{Asked}
 use Rattle.wp_app.specs.Steps.{Step, goes, ◌>>=◌}
-use Rattle.wp_app.specs.Output.{answer_of, ending_status, grounded_step, lifted_step, made_step, part_of, plan_step, texts_step}
+use Rattle.wp_app.specs.Output.{ending_status, grounded_step, lifted_step, made_step, part_of, plan_step, texts_step}
+use Rattle.wp_app.specs.Table.{answer_of}
 
 -- the words are those of the command, and this is their answer
 pub record IsAnswered (asked : Asked) (files : Contents) (command : Command) (reply : Reply) : Type 0 where

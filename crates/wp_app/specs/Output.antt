@@ -1,8 +1,5 @@
--- The output of words and files: one text and one status, or none where it comes to a file that is not there. It is the first of
--- these that has an answer: words without a command; of the domain, then the problem, then the plan, a file that is too long, then
--- a fault of its text; a fault of the names; for `check` the verdict; for `ground` the cause against a task, or
--- the task; for `plan` that cause, or how the search of the task ends, with what the watchers say of it. For `gen` the texts are those
--- that are made of the number and the size, and a line that names these stands before the ending in place of a plan's steps.
+-- The steps in which an answer is sought: what each of them goes on with, and the answer where it does not; and below, the steps in a row
+-- as the code takes them. Which answer each command has stands in Table.
 use Rattle.std.specs.Prelude.{ℕ, nat_lt, true, false, Option, None, Some, Result, Ok, Err, List, [], ◌∷◌, ◌++◌, length}
 use Rattle.std.specs.List.{flat_map}
 use Rattle.std.specs.FinMap.{get}
@@ -21,7 +18,7 @@ use Rattle.wp_syntax.specs.Reading.{Wrong, refusal_at}
 use Rattle.wp_syntax.specs.Domains.{domain_of}
 use Rattle.wp_syntax.specs.Problems.{problem_of}
 use Rattle.wp_lift.specs.Problem.{Lifting}
-use Rattle.wp_lift.specs.Walk.{Fault}
+use Rattle.wp_lift.specs.declared.fault.Fault.{Fault}
 use Rattle.wp_lift.specs.Lifting.{lifting_of}
 use Rattle.wp_check.specs.declared.step.Step.{Step as PlanStep}
 use Rattle.wp_check.specs.declared.step.PlanError.{PlanError}
@@ -40,7 +37,7 @@ use Rattle.wp_app.specs.declared.inputs.Texts.{Texts}
 use Rattle.wp_words.specs.declared.commands.Command.{Command}
 use Rattle.wp_words.specs.declared.commands.Command.TheVariants.{Check, Gen, Ground, Plan}
 use Rattle.wp_app.specs.Requests.{Asked, Request, request_of}
-use Rattle.wp_app.specs.Steps.{Step, missing, ends, goes, reply_of, ◌>>=◌}
+use Rattle.wp_app.specs.Steps.{Step, missing, ends, goes, ◌>>=◌}
 use Rattle.wp_plain.specs.declared.settings.Search.{Search}
 use Rattle.wp_plain.specs.declared.settings.Search.TheVariants.{KBfws, F5}
 use Rattle.wp_plain.specs.declared.settings.Settings.{Settings}
@@ -254,11 +251,3 @@ command_step watchers (Gen number size settings watch plain) files = generated_s
 
 unfoldable pub run_step : Request → Contents → Step Reply
 run_step request files = command_step request.watchers request.command files
-
-unfoldable pub steps_of : Asked → Contents → Step Reply
-steps_of asked files = do
-  request ← request_step asked
-  run_step request files
-
-abbrev pub answer_of : Asked → Contents → Option Reply
-answer_of asked files = reply_of (steps_of asked files)

@@ -29,9 +29,12 @@ pub fn check<S: Shelf>(
     requires domain { IsUtf8 domain.now }
     requires problem { IsUtf8 problem.now }
     requires plan { IsUtf8 plan.now }
-    ensures follows { Follows (S.contents shelf.old) (files_checked_step domain.now problem.now plan.now) (S.faults shelf.old) (S.faults shelf.new) result }
+    ensures follows { Follows (S.contents shelf.old)
+        (files_checked_step domain.now problem.now plan.now)
+        (S.faults shelf.old) (S.faults shelf.new) result }
     ensures defined { IfOk result (λ reply. IsTrue (is_of_files reply.status)) }
-    ensures unread { IfUnread result (IsReached (S.contents shelf.old) (Check domain.now problem.now plan.now)) }
+    ensures unread { IfUnread result
+        (IsReached (S.contents shelf.old) (Check domain.now problem.now plan.now)) }
     ensures same { S.contents shelf.new ≡ S.contents shelf.old }
     ensures later { S.faults shelf.old ≤ S.faults shelf.new }
 {
@@ -48,7 +51,8 @@ fn check_plan<S: Shelf>(
     plan: &Text,
 ) -> Result<Reply, Stop>
     requires { IsUtf8 plan.now }
-    ensures follows { Follows (S.contents shelf.old) (check_step texts.now plan.now) (S.faults shelf.old) (S.faults shelf.new) result }
+    ensures follows { Follows (S.contents shelf.old) (check_step texts.now plan.now)
+        (S.faults shelf.old) (S.faults shelf.new) result }
     ensures defined { IfOk result (λ reply. IsTrue (is_of_files reply.status)) }
     ensures unread { IfUnread result (λ part. part ≡ Plan) }
     ensures same { S.contents shelf.new ≡ S.contents shelf.old }

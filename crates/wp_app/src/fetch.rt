@@ -23,7 +23,8 @@ pub fn read_part<S: Shelf>(
     name: &Text,
 ) -> Result<Text, Stop>
     requires { IsUtf8 name.now }
-    ensures follows { Follows (S.contents shelf.old) (part_of part name.now) (S.faults shelf.old) (S.faults shelf.new) result }
+    ensures follows { Follows (S.contents shelf.old) (part_of part name.now)
+        (S.faults shelf.old) (S.faults shelf.new) result }
     ensures unread { IfUnread result (λ unread. unread ≡ part) }
     ensures same { S.contents shelf.new ≡ S.contents shelf.old }
     ensures later { S.faults shelf.old ≤ S.faults shelf.new }

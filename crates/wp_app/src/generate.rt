@@ -39,7 +39,8 @@ pub fn generated<R: Threads + Sync, G: Gate>(
     requires size { IsSize size }
     requires range { AreInRange settings.now }
     requires untold { AreUntold (places_in kind until told watchers) }
-    ensures meets { (list : List (WatchKind × Option ℕ)) → AreAfter list [] (places_in kind until told watchers) →
+    ensures meets { (list : List (WatchKind × Option ℕ))
+        → AreAfter list [] (places_in kind until told watchers) →
         Meets (generated_step number size settings.now list) result }
     ensures defined { IfOk result (λ reply. IsTrue (is_of_files reply.status)) }
 {

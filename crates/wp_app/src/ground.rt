@@ -28,9 +28,11 @@ pub fn ground_files<S: Shelf>(
 ) -> Result<Reply, Stop>
     requires domain { IsUtf8 domain.now }
     requires problem { IsUtf8 problem.now }
-    ensures follows { Follows (S.contents shelf.old) (files_numbered_step domain.now problem.now) (S.faults shelf.old) (S.faults shelf.new) result }
+    ensures follows { Follows (S.contents shelf.old) (files_numbered_step domain.now problem.now)
+        (S.faults shelf.old) (S.faults shelf.new) result }
     ensures defined { IfOk result (λ reply. IsTrue (is_of_files reply.status)) }
-    ensures unread { IfUnread result (IsReached (S.contents shelf.old) (Ground domain.now problem.now)) }
+    ensures unread { IfUnread result
+        (IsReached (S.contents shelf.old) (Ground domain.now problem.now)) }
     ensures same { S.contents shelf.new ≡ S.contents shelf.old }
     ensures later { S.faults shelf.old ≤ S.faults shelf.new }
 {

@@ -29,7 +29,8 @@ pub fn read_texts<S: Shelf>(
 ) -> Result<Texts, Stop>
     requires domain { IsUtf8 domain.now }
     requires problem { IsUtf8 problem.now }
-    ensures follows { Follows (S.contents shelf.old) (texts_step domain.now problem.now) (S.faults shelf.old) (S.faults shelf.new) result }
+    ensures follows { Follows (S.contents shelf.old) (texts_step domain.now problem.now)
+        (S.faults shelf.old) (S.faults shelf.new) result }
     ensures unread { IfUnread result (IsInputReached (S.contents shelf.old) domain.now) }
     ensures same { S.contents shelf.new ≡ S.contents shelf.old }
     ensures later { S.faults shelf.old ≤ S.faults shelf.new }

@@ -1,7 +1,7 @@
 //! The top call: words and files in, bytes and a status out.
 //!
-//! `run_words` writes the text and answers the status that `specs/Output.antt` defines of the words and the files' bytes, as one
-//! function, step by step in the order of refusals. It names each fault of the outside by its cause, a count that rose.
+//! `run_words` writes the text and answers the status that `specs/Table.antt` defines of the words and the files' bytes: for each
+//! command a list of steps, in the order of refusals. It names each fault of the outside by its cause, a count that rose.
 //!
 //! The whole text of an answer is made before its first byte is put; a step of the way either goes on with a value or ends with
 //! a reply. `wp_main` calls it with the real files and output, tests with those in memory.
@@ -30,8 +30,9 @@ pub use laws::{
     searches_are_bounded,
 };
 pub use meanings::{
-    answers_are_of_their_commands, checks_are_true, endings_have_their_statuses, no_plan_is_true,
-    unreached_goals_are_answered,
+    answers_are_of_their_commands, checks_are_true, endings_have_their_statuses,
+    missing_files_have_no_answer, no_plan_is_true, plain_plays_no_part, refusals_have_their_causes,
+    tasks_are_grounded, unreached_goals_are_answered, usage_is_of_no_command,
 };
 pub use reply::{Reply, Status};
 pub use run::run_words;

@@ -47,8 +47,10 @@ pub fn plan_files<R: Threads + Sync, S: Shelf, G: Gate>(
     requires problem { IsUtf8 problem.now }
     requires range { AreInRange settings.now }
     requires untold { AreUntold (places_in kind until told watchers) }
-    ensures follows { (list : List (WatchKind × Option ℕ)) → AreAfter list [] (places_in kind until told watchers) →
-        Follows (S.contents shelf.old) (files_planned_step domain.now problem.now settings.now list) (S.faults shelf.old) (S.faults shelf.new) result }
+    ensures follows { (list : List (WatchKind × Option ℕ))
+        → AreAfter list [] (places_in kind until told watchers) →
+        Follows (S.contents shelf.old) (files_planned_step domain.now problem.now settings.now list)
+        (S.faults shelf.old) (S.faults shelf.new) result }
     ensures defined { IfOk result (λ reply. IsTrue (is_of_files reply.status)) }
     ensures unread { IfUnread result (IsInputReached (S.contents shelf.old) domain.now) }
     ensures same { S.contents shelf.new ≡ S.contents shelf.old }
@@ -83,7 +85,8 @@ pub fn planned<R: Threads + Sync, G: Gate>(
 ) -> Result<Reply, Stop>
     requires range { AreInRange settings.now }
     requires untold { AreUntold (places_in kind until told watchers) }
-    ensures meets { (list : List (WatchKind × Option ℕ)) → AreAfter list [] (places_in kind until told watchers) →
+    ensures meets { (list : List (WatchKind × Option ℕ))
+        → AreAfter list [] (places_in kind until told watchers) →
         Meets (planned_step shown settings.now list texts.now) result }
     ensures defined { IfOk result (λ reply. IsTrue (is_of_files reply.status)) }
 {
@@ -107,7 +110,9 @@ fn searched<R: Threads + Sync, G: Gate>(
     requires range { AreInRange settings.now }
     requires named { IsNamed grounded.now }
     requires untold { AreUntold (places_in kind until told watchers) }
-    ensures reply { IfOk result (λ reply. (list : List (WatchKind × Option ℕ)) → AreAfter list [] (places_in kind until told watchers) →
+    ensures reply { IfOk result (λ reply.
+        (list : List (WatchKind × Option ℕ))
+        → AreAfter list [] (places_in kind until told watchers) →
         reply ≡ searched_reply shown settings.now list grounded.now) }
     ensures defined { IfOk result (λ reply. IsTrue (is_of_files reply.status)) }
 {
@@ -157,9 +162,12 @@ fn search_task<R: Threads + Sync, G: Gate>(
 ) -> Result<Ending, AllocError>
     requires range { AreInRange settings.now }
     requires untold { AreUntold (places_in kind until told watchers.old) }
-    ensures ending { IfOk result (λ ending. ending ≡ ending_of task.now settings.now (all_tuples task.now settings.now)) }
-    ensures events { OnOk result ((list : List (WatchKind × Option ℕ)) → AreAfter list [] (places_in kind until told watchers.old) →
-        AreAfter list (run task.now settings.now (all_tuples task.now settings.now)).1.events (places_in kind until told watchers.new)) }
+    ensures ending { IfOk result (λ ending.
+        ending ≡ ending_of task.now settings.now (all_tuples task.now settings.now)) }
+    ensures events { OnOk result ((list : List (WatchKind × Option ℕ))
+        → AreAfter list [] (places_in kind until told watchers.old) →
+        AreAfter list (run task.now settings.now (all_tuples task.now settings.now)).1.events
+        (places_in kind until told watchers.new)) }
 {
     if plain {
         plain_search(alloc, task, settings, watchers)
@@ -179,7 +187,8 @@ fn ending_reply(
     requires range { AreInRange settings.now }
     requires named { IsNamed grounded.now }
     requires plan { IsPlanBelow (length grounded.now.task.acts) ending.now.how }
-    ensures reply { IfOk result (λ reply. reply ≡ ending_reply shown settings.now grounded.now ending.now) }
+    ensures reply { IfOk result (λ reply.
+        reply ≡ ending_reply shown settings.now grounded.now ending.now) }
     ensures defined { IfOk result (λ reply. IsTrue (is_of_files reply.status)) }
 {
     let tuples = tuple_count(settings.width, grounded.task.atoms());

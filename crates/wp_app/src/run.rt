@@ -82,9 +82,11 @@ fn reply_to<R: Threads + Sync, S: Shelf, G: Gate>(
     watchers: Vec<Box<dyn Watch>>,
 ) -> Result<Reply, AllocError>
     requires { All (λ watch. told watch ≡ []) watchers.items }
-    ensures is { IfOk result (IsReply (asked_by kind until (map string_bytes words.now) watchers.items)
+    ensures is { IfOk result (IsReply
+        (asked_by kind until (map string_bytes words.now) watchers.items)
         (S.contents shelf.old) (S.faults shelf.old) (S.faults shelf.new)) }
-    ensures usage { IfOk result (IsUsageOf (asked_by kind until (map string_bytes words.now) watchers.items)) }
+    ensures usage { IfOk result
+        (IsUsageOf (asked_by kind until (map string_bytes words.now) watchers.items)) }
     ensures contents { S.contents shelf.new ≡ S.contents shelf.old }
     ensures later { S.faults shelf.old ≤ S.faults shelf.new }
 {
@@ -108,7 +110,8 @@ fn kept_for(
     command: &Command,
     watchers: Vec<Box<dyn Watch>>,
 ) -> Result<Vec<Box<dyn Watch>>, AllocError>
-    ensures { IfOk result (λ kept. kept.items ≡ filter (λ watch. keeps_kind command.now (kind watch)) watchers.items) }
+    ensures { IfOk result (λ kept.
+        kept.items ≡ filter (λ watch. keeps_kind command.now (kind watch)) watchers.items) }
 {
     let mut kept = Vec::new(alloc);
     for watch in watchers {
@@ -122,7 +125,8 @@ fn push_kept(
     command: &Command,
     watch: Box<dyn Watch>,
 ) -> Result<(), AllocError>
-    ensures { OnOk result (kept.new.items ≡ kept.old.items ++ (if keeps_kind command.now (kind watch) then watch ∷ [] else [])) }
+    ensures { OnOk result (kept.new.items
+        ≡ kept.old.items ++ (if keeps_kind command.now (kind watch) then watch ∷ [] else [])) }
 {
     if keeps_kind(command, watch.kind()) {
         kept.push(watch)?;
@@ -154,8 +158,10 @@ fn command_reply<R: Threads + Sync, S: Shelf, G: Gate>(
     requires names { HasNames command.now }
     requires range { IsInRange command.now }
     requires untold { AreUntold (places_in kind until told watchers) }
-    ensures is { IfOk result (λ reply. (list : List (WatchKind × Option ℕ)) → AreAfter list [] (places_in kind until told watchers) →
-        IsReplyTo (record { command = command.now; watchers = list }) (S.contents shelf.old) (S.faults shelf.old) (S.faults shelf.new) reply) }
+    ensures is { IfOk result (λ reply. (list : List (WatchKind × Option ℕ))
+        → AreAfter list [] (places_in kind until told watchers) →
+        IsReplyTo (record { command = command.now; watchers = list })
+        (S.contents shelf.old) (S.faults shelf.old) (S.faults shelf.new) reply) }
     ensures contents { S.contents shelf.new ≡ S.contents shelf.old }
     ensures later { S.faults shelf.old ≤ S.faults shelf.new }
 {
@@ -183,8 +189,10 @@ fn run_command<R: Threads + Sync, S: Shelf, G: Gate>(
     requires names { HasNames command.now }
     requires range { IsInRange command.now }
     requires untold { AreUntold (places_in kind until told watchers) }
-    ensures follows { (list : List (WatchKind × Option ℕ)) → AreAfter list [] (places_in kind until told watchers) →
-        Follows (S.contents shelf.old) (run_step (record { command = command.now; watchers = list })) (S.faults shelf.old) (S.faults shelf.new) result }
+    ensures follows { (list : List (WatchKind × Option ℕ))
+        → AreAfter list [] (places_in kind until told watchers) → Follows (S.contents shelf.old)
+        (run_step (record { command = command.now; watchers = list }))
+        (S.faults shelf.old) (S.faults shelf.new) result }
     ensures defined { IfOk result (λ reply. IsTrue (is_of_files reply.status)) }
     ensures unread { IfUnread result (IsReached (S.contents shelf.old) command.now) }
     ensures contents { S.contents shelf.new ≡ S.contents shelf.old }

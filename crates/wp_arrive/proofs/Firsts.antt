@@ -1,5 +1,5 @@
 -- First arrivals and parts of many views, where one view changes.
-use Rattle.std.proofs.Common.{◌≡◌, ℕ, Bool, true, false, zero, suc, ◌+◌, ◌-◌, ◌^◌, ◌<◌, ◌≤◌, ◌≢◌, List, [], ◌∷◌, ◌++◌, set, sym, refl, ap, ◌∙◌, ⊎_elim, arith, cond, eqb, eq-eqb, ne_eqb}
+use Rattle.std.proofs.Common.{◌≡◌, ℕ, Bool, true, false, zero, suc, ◌+◌, ◌-◌, ◌^◌, ◌<◌, ◌≤◌, ◌≢◌, List, [], ◌∷◌, ◌++◌, set, sym, refl, ap, ◌∙◌, ⊎_elim, arith, cond, eqb, eq-eqb, ne_eqb, append-nil}
 use Prim.Native.Nat.{min}
 use mathlib.Core.Option.{some, some-injective, some-ne-none}
 use lib.ListN.{get_elem?}
@@ -33,6 +33,10 @@ gained_here ms t n h = let one : first (mark t n ∷ []) t ≡ min n none_yet = 
 
 pub gained_else : (ms : List Mark) (t u n : ℕ) → u ≢ t → first (ms ++ mark t n ∷ []) u ≡ min (first ms u) none_yet
 gained_else ms t u n ne = let one : first (mark t n ∷ []) u ≡ none_yet = ap (λ b. cond b (min n none_yet) none_yet) (ne_eqb t u (λ e. ne (sym e))) in omega (arith, first_append ms (mark t n ∷ []) u, one)
+
+-- a mark of a number that may be none
+pub gained_any : (ms : List Mark) (t n : ℕ) → n ≤ none_yet → first (ms ++ mark t n ∷ []) t ≡ min (first ms t) n
+gained_any ms t n h = let one : first (mark t n ∷ []) t ≡ min n none_yet = ap (λ b. cond b (min n none_yet) none_yet) (eq-eqb t t refl) in omega (arith, first_append ms (mark t n ∷ []) t, one)
 
 -- one view gains marks of which x is the first: so do all views
 pub first_set : (vs : List View) (j : ℕ) (v w : View) (x t : ℕ) → get_elem? vs j ≡ some v → first w.marks t ≡ min (first v.marks t) x → first (marks_of (set vs j w)) t ≡ min (first (marks_of vs) t) x
@@ -80,6 +84,17 @@ all_mine (u ∷ vs) zero v t e idle all = let mine : u.parts ≡ v.parts = ap (�
     omega (arith, first_append u.marks (marks_of vs) t, none_left vs t (λ k. idle (suc k)) (omega arith), ap (λ (y : View). first y.marks t) (some-injective u v e), first_le v.marks t)
 all_mine (u ∷ vs) (suc j) v t e idle all = let some_there = part_le vs j v e in
     omega (arith, first_append u.marks (marks_of vs) t, ap (λ l. first l t) (idle 0 u refl (omega arith)), all_mine vs j v t e (λ k. idle (suc k)) (omega arith), first_le v.marks t)
+
+no_marks : (vs : List View) → IdleIsEmpty vs → parts_of vs ≡ 0 → marks_of vs ≡ []
+no_marks [] idle z = refl
+no_marks (u ∷ vs) idle z = ap (λ l. l ++ marks_of vs) (idle 0 u refl (omega arith)) ∙ no_marks vs (λ k. idle (suc k)) (omega arith)
+
+pub all_marks : (vs : List View) (j : ℕ) (v : View) → get_elem? vs j ≡ some v → IdleIsEmpty vs → parts_of vs ≡ v.parts → marks_of vs ≡ v.marks
+all_marks [] j v e idle all = absurd (some-ne-none v (sym e))
+all_marks (u ∷ vs) zero v e idle all = let mine : u.parts ≡ v.parts = ap (λ (y : View). y.parts) (some-injective u v e) in
+    ap (λ l. u.marks ++ l) (no_marks vs (λ k. idle (suc k)) (omega arith)) ∙ append-nil u.marks ∙ ap (λ (y : View). y.marks) (some-injective u v e)
+all_marks (u ∷ vs) (suc j) v e idle all = let some_there = part_le vs j v e in
+    ap (λ l. l ++ marks_of vs) (idle 0 u refl (omega arith)) ∙ all_marks vs j v e (λ k. idle (suc k)) (omega arith)
 
 pub idle_set : (vs : List View) (j : ℕ) (w : View) → IdleIsEmpty vs → (w.parts ≡ 0 → w.marks ≡ []) → IdleIsEmpty (set vs j w)
 idle_set vs j w idle h k u e z = ⊎_elim (λ t. ap (λ (y : View). y.marks) (sym t.1) ∙ h (ap (λ (y : View). y.parts) t.1 ∙ z)) (λ t. idle k u t.1 z) (at_set vs j k w u e)

@@ -1,7 +1,12 @@
 -- What holds of first arrivals, whatever the marks are.
 use Rattle.std.specs.Prelude.{◌≡◌, ℕ, ◌-◌, ◌^◌, ◌<◌, ◌≤◌, List, [], ◌∷◌, replicate, slice_index, slice_set, min, Contains, IsPermutation}
+use mathlib.Core.Option.{some}
+use lib.ListN.{get_elem?}
+use Rattle.atomic_table.specs.Table.{State}
 use Rattle.wp_arrive.specs.declared.view.Mark.{Mark}
+use Rattle.wp_arrive.specs.declared.view.View.{View}
 use Rattle.wp_arrive.specs.FirstArrival.{mark, first}
+use Rattle.wp_arrive.specs.Rule.{Keeps, marks_of}
 
 -- a word takes the least of what it has and what arrives
 abbrev pub arrive : List ℕ → Mark → List ℕ
@@ -30,3 +35,8 @@ EndsAsFirst = (count : ℕ) (marks : List Mark) (place : ℕ) → place < count 
 -- and they leave the same words in any other order
 abbrev pub AnyOrder : Type 0
 AnyOrder = (count : ℕ) (marks others : List Mark) → IsPermutation marks others → arrive_all (blank_words count) others ≡ arrive_all (blank_words count) marks
+
+-- whenever the words are at rest, a view with all parts has every mark that was made, each once
+abbrev pub AllPartsHaveAllMarks : Type 0
+AllPartsHaveAllMarks = (count : ℕ) (s : State ℕ View) → Keeps count s → (seat : ℕ) (v : View) → get_elem? s.views seat ≡ some v →
+    v.parts ≡ 2 ^ 32 → marks_of s.views ≡ v.marks

@@ -1,6 +1,7 @@
 -- The rule of the shared words, kept by each atomic step: a word is the first arrival of all marks at its place.
 -- Whoever has all parts knows that no other view has marks, so a word is then the first arrival of its own marks.
-use Rattle.std.specs.Prelude.{◌≡◌, ℕ, ◌+◌, ◌-◌, ◌^◌, ◌<◌, List, [], ◌∷◌, ◌++◌, length, slice_index}
+use Rattle.std.specs.Prelude.{◌≡◌, ℕ, ◌+◌, ◌-◌, ◌^◌, ◌<◌, List, [], ◌∷◌, ◌++◌, length, slice_index, nat_le}
+use Rattle.std.specs.Bool.{MatchBool}
 use mathlib.Core.Option.{some}
 use lib.ListN.{get_elem?}
 use Rattle.atomic_table.specs.Table.{State, Me, Step}
@@ -50,6 +51,19 @@ pub record Keeps (count : ℕ) (s : State ℕ View) : Type 0 where
 -- a mark adds its place and number to the marks of the view
 abbrev pub Gains : Step ℕ → Me ℕ View → ℕ → Me ℕ View → Type 0
 Gains s me found after = after ≡ (view me.0.parts (me.0.marks ++ mark s.word s.first ∷ []), me.1)
+
+-- the number of the latest mark
+abbrev pub latest : List Mark → ℕ
+latest [] = 2 ^ 64 - 1
+latest (m ∷ []) = m.number
+latest (m ∷ next ∷ marks) = latest (next ∷ marks)
+
+-- a look before a mark: where the word is not above the number of the latest mark, one more mark of that number would leave it
+-- as it is, and the view has that mark too; else nothing changes
+abbrev pub Repeats : Step ℕ → Me ℕ View → ℕ → Me ℕ View → Type 0
+Repeats s me found after = MatchBool (nat_le found (latest me.0.marks))
+    (after ≡ (view me.0.parts (me.0.marks ++ mark s.word (latest me.0.marks) ∷ []), me.1))
+    (after ≡ me)
 
 -- a look changes nothing, and with all parts it finds the first arrival of the view's own marks
 abbrev pub Reads : Step ℕ → Me ℕ View → ℕ → Me ℕ View → Type 0

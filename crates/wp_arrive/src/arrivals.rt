@@ -5,9 +5,10 @@
 ghost use Rattle.std.specs.Prelude.{◌≡◌, ◌+◌, ◌-◌, ◌^◌, ◌<◌, ◌≤◌, [], ◌∷◌, ◌++◌, IfOk};
 ghost use base.Fml.{ftrue};
 ghost use Rattle.wp_arrive.specs.FirstArrival.{mark, first};
+ghost use Rattle.wp_arrive.specs.Rule.{latest};
 ghost use Rattle.wp_arrive.specs.Seen.{TableId, table_id_coded, PassView, seen};
 
-use crate::rule::{FirstArrivals, Gives, Looks, Marks};
+use crate::rule::{FirstArrivals, Gives, Looks, Marks, MarksAgain};
 use crate::view::View;
 use atomic_table::{Seat, Table};
 use std::alloc::{AllocError, Global};
@@ -81,6 +82,26 @@ impl Arrivals {
         self.table
             .shared
             .fetch_min::<Marks>(&mut pass.seat, t as usize, n);
+    }
+
+    /// The same for the number that was marked last, at another place. The word is looked at first, and a minimum is made only where
+    /// it lowers the word.
+    // Most places have a lesser number already. A look costs a plain load, a minimum holds the processor up.
+    pub fn mark_again(&self, pass: &mut Pass, t: u64, n: u64)
+        requires table { pass.old.table ≡ self.now }
+        requires part { 0 < pass.old.parts }
+        requires place { t < self.now.words }
+        requires number { n < 2 ^ 64 - 1 }
+        requires latest { latest pass.old.marks ≡ n }
+        ensures { pass.new ≡ seen pass.old.table (pass.old.marks ++ mark t n ∷ []) pass.old.parts }
+    {
+        let word = self
+            .table
+            .shared
+            .load::<MarksAgain>(&mut pass.seat, t as usize);
+        if word > n {
+            self.mark(pass, t, n);
+        }
     }
 
     /// `u64::MAX` where nothing was marked. Only who has all parts may ask: then no thread marks at the same time.

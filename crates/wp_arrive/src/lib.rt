@@ -16,5 +16,5 @@ mod tests;
 pub mod view;
 
 pub use arrivals::{Arrivals, Pass};
-pub use laws::marks_in_any_order;
+pub use laws::{all_parts_have_all_marks, marks_in_any_order};
 pub use view::{Mark, View};

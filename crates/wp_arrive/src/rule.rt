@@ -1,5 +1,5 @@
 //! The rule that the words keep, and what each kind of step tells the pass that makes it.
-ghost use Rattle.wp_arrive.specs.Rule.{Keeps, whole, Gains, Reads, one_less, one_part, joined, spent};
+ghost use Rattle.wp_arrive.specs.Rule.{Keeps, whole, Gains, Repeats, Reads, one_less, one_part, joined, spent};
 
 use crate::view::View;
 use atomic_table::{Join, Play, Split, TableRule};
@@ -17,6 +17,13 @@ pub(crate) struct Marks;
 
 impl Play<u8, View> for Marks {
     ghost then = { Gains };
+}
+
+/// A mark of the number that was marked last, where the word is low already.
+pub(crate) struct MarksAgain;
+
+impl Play<u8, View> for MarksAgain {
+    ghost then = { Repeats };
 }
 
 pub(crate) struct Looks;

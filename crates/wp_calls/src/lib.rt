@@ -1,27 +1,21 @@
-//! Small cases of the calls under the search: tasks, successors, costs, relaxed plans, counters, events, watchers and
-//! novelty tables; of both searches; of command lines; and of the calls that make the texts of the answers. A crate of tests.
+//! The calls under the search that no run of the program makes, each made once from outside its crate. A crate of tests.
 //!
-//! Each call that takes memory is made once, so that a body which always answers want of memory is refused. The answers are
-//! stated here by hand, never taken from the program.
+//! A body that always answers want of memory is refused here where no command calls it, and by the stored runs of the program
+//! where one does. What a call answers is proved of its definition, whose worked rows are computed in the definition's crate;
+//! the answers here are stated by hand, never taken from the program.
 #![tactic(auto)]
 
 #[cfg(test)]
 mod counters;
 #[cfg(test)]
-mod depots;
-#[cfg(test)]
-mod events;
+mod queue;
 #[cfg(test)]
 mod searches;
+#[cfg(test)]
+mod states;
 #[cfg(test)]
 mod tables;
 #[cfg(test)]
 mod tasks;
 #[cfg(test)]
-mod texts;
-#[cfg(test)]
-mod watched;
-#[cfg(test)]
 mod watchers;
-#[cfg(test)]
-mod words;

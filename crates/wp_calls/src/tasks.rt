@@ -1,4 +1,4 @@
-//! Tasks, successors, costs and relaxed plans on small cases: each call that takes memory answers.
+//! Tasks of small numbers, with their plans, relaxed plans and costs: each call that takes memory answers.
 ghost use Rattle.std.specs.Prelude.{◌≡◌, ◌≤◌, ℕ, true, false, length, IfOk, OnOk, All};
 ghost use Rattle.wp_task.specs.Set.{lists, AreAtoms};
 ghost use Rattle.wp_task.specs.Task.{IsAct};
@@ -6,15 +6,14 @@ ghost use Rattle.wp_task.specs.Task.{IsAct};
 use std::alloc::{AllocError, Global};
 use std::test::Fail;
 use wp_relax::{Costs, relaxed_atoms, relaxed_plan};
-use wp_succ::{Plain, Successors};
-use wp_task::{Act, Acts, Atoms, Mark, State, Task, Track};
+use wp_task::{Act, Acts, Atoms, State, Task};
 
 /// The preconditions, add and delete effects of an action.
 #[derive(Clone, Copy)]
-struct Row<'a> {
-    pre: &'a [u32],
-    add: &'a [u32],
-    del: &'a [u32],
+pub(crate) struct Row<'a> {
+    pub(crate) pre: &'a [u32],
+    pub(crate) add: &'a [u32],
+    pub(crate) del: &'a [u32],
 }
 
 /// Fails unless the atoms are below the size and rise.
@@ -49,7 +48,7 @@ fn atoms_of(alloc: Global, size: u32, numbers: &[u32]) -> Result<Atoms, Fail>
     Ok(Atoms::of_vec(items))
 }
 
-fn state_of(alloc: Global, size: u32, numbers: &[u32]) -> Result<State, Fail>
+pub(crate) fn state_of(alloc: Global, size: u32, numbers: &[u32]) -> Result<State, Fail>
     ensures { IfOk result (λ state. length state ≡ size) }
 {
     let atoms = atoms_of(alloc, size, numbers)?;
@@ -67,7 +66,7 @@ fn act_of(alloc: Global, size: u32, row: &Row) -> Result<Act, Fail>
     Ok(Act { pre, add, del })
 }
 
-fn acts_of(alloc: Global, size: u32, rows: &[Row]) -> Result<Acts, Fail>
+pub(crate) fn acts_of(alloc: Global, size: u32, rows: &[Row]) -> Result<Acts, Fail>
     ensures { IfOk result (λ acts. All (IsAct size) acts) }
 {
     let mut acts = Vec::new(alloc);
@@ -79,7 +78,13 @@ fn acts_of(alloc: Global, size: u32, rows: &[Row]) -> Result<Acts, Fail>
 }
 
 /// The task of these parts; fails where they do not fit together.
-fn task_of(alloc: Global, size: u32, init: &[u32], goals: &[u32], acts: Acts) -> Result<Task, Fail>
+pub(crate) fn task_of(
+    alloc: Global,
+    size: u32,
+    init: &[u32],
+    goals: &[u32],
+    acts: Acts,
+) -> Result<Task, Fail>
     requires { All (IsAct size) acts }
 {
     if size > 65536 || acts.as_slice().len() > 1048576 {
@@ -107,24 +112,6 @@ pub(crate) fn chain(alloc: Global) -> Result<Task, Fail> {
     ];
     let acts = acts_of(alloc, 3, &rows)?;
     task_of(alloc, 3, &[0], &[2], acts)
-}
-
-/// Two goals that are reached apart.
-pub(crate) fn empty(alloc: Global) -> Result<Task, Fail> {
-    let rows = [
-        Row {
-            pre: &[],
-            add: &[0],
-            del: &[],
-        },
-        Row {
-            pre: &[],
-            add: &[1],
-            del: &[],
-        },
-    ];
-    let acts = acts_of(alloc, 2, &rows)?;
-    task_of(alloc, 2, &[], &[0, 1], acts)
 }
 
 /// A trap: the cheap way to z is over t, and it spends s (atoms s t z m n o).
@@ -200,83 +187,6 @@ fn levels(alloc: Global, n: u32) -> Result<Task, Fail>
     task_of(alloc, 2 * n, &[], &[2 * n - 2], Acts::of_vec(acts))
 }
 
-#[test]
-fn a_copy_of_a_state_is_equal(rt: HostRuntime) -> Result<(), Fail> {
-    let alloc = rt.alloc();
-    let state = state_of(alloc, 65, &[0, 64])?;
-    let copy = state.copy(alloc)?;
-    assert!(rt; copy == state && copy.has(64) && !copy.has(63) && copy.next(1) == Some(64));
-    Ok(())
-}
-
-#[test]
-fn a_copy_of_a_track_is_equal(rt: HostRuntime) -> Result<(), Fail> {
-    let alloc = rt.alloc();
-    let track = Track::of(atoms_of(alloc, 3, &[1, 2])?);
-    let copy = track.copy(alloc)?;
-    let atoms = copy.atoms().copy(alloc)?;
-    assert_eq!(rt; atoms.as_slice(), [1, 2].as_slice());
-    Ok(())
-}
-
-#[test]
-fn a_copy_of_a_mark_is_equal(rt: HostRuntime) -> Result<(), Fail> {
-    let alloc = rt.alloc();
-    let got = state_of(alloc, 3, &[1, 2])?;
-    let mark = Mark {
-        g: 3,
-        r: 2,
-        track: 1,
-        got,
-    };
-    let copy = mark.copy(alloc)?;
-    assert!(rt; copy.g == 3 && copy.r == 2 && copy.track == 1 && copy.got == mark.got);
-    Ok(())
-}
-
-#[test]
-fn a_plan_leads_through_the_trap(rt: HostRuntime) -> Result<(), Fail> {
-    let alloc = rt.alloc();
-    let task = trap(alloc)?;
-    for (plan, valid) in [
-        ([2, 3, 4, 5].as_slice(), true),
-        ([0, 1].as_slice(), false),
-        ([2, 3, 4].as_slice(), false),
-    ] {
-        let plan = Atoms::of_vec(Vec::from_slice(alloc, plan)?);
-        let answer = task.plan_ok(alloc, &plan)?;
-        assert_eq!(rt; answer, valid);
-    }
-    Ok(())
-}
-
-/// The actions that apply in a state, by the generator that tries each.
-fn applicable(alloc: Global, task: &Task, state: &State) -> Result<Atoms, AllocError>
-    requires { length state.now ≡ task.now.atoms }
-{
-    let acts = Plain::of(task).list(alloc, task, state)?;
-    Ok(acts)
-}
-
-#[test]
-fn the_actions_of_the_trap_that_apply_are_listed(rt: HostRuntime) -> Result<(), Fail> {
-    let alloc = rt.alloc();
-    let task = trap(alloc)?;
-    let acts = applicable(alloc, &task, task.init())?;
-    assert_eq!(rt; acts.as_slice(), [0, 2, 3, 4].as_slice());
-    Ok(())
-}
-
-#[test]
-fn the_first_action_of_the_trap_spends_an_atom(rt: HostRuntime) -> Result<(), Fail> {
-    let alloc = rt.alloc();
-    let task = trap(alloc)?;
-    assert!(rt; task.act_count() == 6);
-    let state = task.apply(alloc, task.init(), 0)?;
-    assert!(rt; state.next(0) == Some(1) && state.next(2).is_none());
-    Ok(())
-}
-
 /// How many actions the relaxed plan at the opening state has, if there is one, and how many atoms its track has.
 fn relaxed_sizes(alloc: Global, task: &Task) -> Result<(Option<usize>, usize), AllocError> {
     let track = relaxed_atoms(alloc, task, task.init())?;
@@ -285,33 +195,6 @@ fn relaxed_sizes(alloc: Global, task: &Task) -> Result<(Option<usize>, usize), A
         Some(plan) => Ok((Some(plan.as_slice().len()), atoms)),
         None => Ok((None, atoms)),
     }
-}
-
-#[test]
-fn the_relaxed_plan_of_the_trap_is_the_short_way(rt: HostRuntime) -> Result<(), Fail> {
-    let alloc = rt.alloc();
-    let task = trap(alloc)?;
-    let sizes = relaxed_sizes(alloc, &task)?;
-    assert!(rt; sizes.0 == Some(2) && sizes.1 == 2);
-    Ok(())
-}
-
-#[test]
-fn a_relaxed_plan_goes_up_sixty_levels(rt: HostRuntime) -> Result<(), Fail> {
-    let alloc = rt.alloc();
-    let task = levels(alloc, 60)?;
-    let sizes = relaxed_sizes(alloc, &task)?;
-    assert!(rt; sizes.0 == Some(60) && sizes.1 == 120);
-    Ok(())
-}
-
-#[test]
-fn no_relaxed_plan_goes_up_sixty_one_levels(rt: HostRuntime) -> Result<(), Fail> {
-    let alloc = rt.alloc();
-    let task = levels(alloc, 61)?;
-    let sizes = relaxed_sizes(alloc, &task)?;
-    assert!(rt; sizes.0.is_none() && sizes.1 == 0);
-    Ok(())
 }
 
 /// The cost of an atom at the opening state, and whether it has a supporter.
@@ -324,12 +207,31 @@ fn cost_of(alloc: Global, task: &Task, p: u32) -> Result<(Option<u64>, bool), Fa
 }
 
 #[test]
-fn costs_double_up_to_two_to_the_sixtieth(rt: HostRuntime) -> Result<(), Fail> {
+fn the_long_way_leads_through_the_trap(rt: HostRuntime) -> Result<(), Fail> {
     let alloc = rt.alloc();
+    let task = trap(alloc)?;
+    for (plan, valid) in [
+        ([2, 3, 4, 5].as_slice(), true),
+        ([0, 1].as_slice(), false),
+        ([2, 3, 4].as_slice(), false),
+    ] {
+        let plan = Atoms::of_vec(Vec::from_slice(alloc, plan)?);
+        let answer = task.plan_ok(alloc, &plan)?;
+        assert_eq!(rt; answer, valid);
+    }
+    // The relaxed plan is the short way.
+    assert!(rt; relaxed_sizes(alloc, &task)? == (Some(2), 2));
+    Ok(())
+}
+
+#[test]
+fn costs_are_finite_below_two_to_the_sixtieth(rt: HostRuntime) -> Result<(), Fail> {
+    let alloc = rt.alloc();
+    assert!(rt; relaxed_sizes(alloc, &levels(alloc, 60)?)? == (Some(60), 120));
     let task = levels(alloc, 61)?;
+    assert!(rt; relaxed_sizes(alloc, &task)? == (None, 0));
     for (atom, cost) in [
         (0, Some(1)),
-        (1, Some(1)),
         (2, Some(3)),
         (19, Some(1023)),
         (118, Some(1152921504606846975)),

@@ -1,16 +1,16 @@
 -- Steps without a fault name instances that apply, and such instances have no fault.
-use Rattle.std.proofs.Common.{◌≡◌, ℕ, ◌+◌, ◌<◌, ◌==◌, ◌&&◌, not, Bool, true, false, cond, Option, None, Some, unwrap_or, IfSome, List, [], ◌∷◌, length, map, refl, sym, ◌∙◌, ap, subst}
+use Rattle.std.proofs.Common.{◌≡◌, ℕ, ◌+◌, ◌<◌, ◌==◌, ◌&&◌, not, Bool, true, false, cond, Option, None, Some, unwrap_or, List, [], ◌∷◌, length, map, refl, sym, ◌∙◌, ap, subst}
 use Rattle.std.specs.Prelude.{option_map}
 use Rattle.std.specs.List.{AllZip, list_all, position, position_from}
 use Rattle.std.proofs.lemmas.Bool.{and_parts, and_from, lt-ltb, eqb-true, eq-eqb}
 use Rattle.std.proofs.lemmas.List.{length-map}
 use Rattle.std.proofs.lemmas.Iterator.Adapters.{position_from-zero}
+use Rattle.std.proofs.lemmas.List.Quantifiers.{position-Some}
 use Rattle.wp_lift.specs.declared.atoms.GroundAtom.{GroundAtom}
 use Rattle.wp_lift.specs.declared.schemas.Schema.{Schema}
 use Rattle.wp_lift.specs.Problem.{Lifting, Instance, schema_at, fits, all_fit}
 use Rattle.wp_lift.specs.Worlds.{among, is_same_args, holds, all_hold, first_false, unmet_goal, after, is_instance, is_valid_from}
 use Rattle.wp_lift.specs.Names.{object_named, schema_named}
-use Rattle.wp_lift.proofs.PlaceLemmas.{position-in}
 use Rattle.wp_check.specs.declared.step.Step.{Step}
 use Rattle.wp_check.specs.declared.cause.Why.{Why}
 use Rattle.wp_check.specs.declared.cause.Why.TheVariants.{Arguments, Condition, Misfit}
@@ -112,8 +112,7 @@ schema_there : (lifted : Lifting) (name : List ℕ) (schema : ℕ) → schema_na
 schema_there lifted name schema e =
     let name_of = λ (schema : Schema). schema.name in
     let names = map name_of lifted.schemas in
-    let found : IfSome (schema_named lifted name) (λ i. i < length names) = position-in (is_same_args name) names in
-    subst (λ n. schema < n) (length-map lifted.schemas name_of) (subst (λ (found : Option ℕ). IfSome found (λ i. i < length names)) e found)
+    subst (λ n. schema < n) (length-map lifted.schemas name_of) (position-Some (is_same_args name) names schema [] e).0
 
 -- a name, a number of arguments and arguments with which nothing is wrong
 pub named_by : (lifted : Lifting) (step : Step) (schema : ℕ) → schema_named lifted step.name ≡ Some schema → (length step.args == (schema_at lifted schema).arity) ≡ true

@@ -40,6 +40,17 @@ pub enum Stop {
     Memory,
 }
 
+impl From<Why> for Stop {
+    ghost use Rattle.std.specs.Prelude.{◌≡◌};
+    ghost use Rattle.wp_check.specs.declared.cause.Stop.TheVariants.{Bad};
+
+    ghost from_gives = { λ why e. e ≡ Bad why };
+
+    fn from(why: Why) -> Stop {
+        Stop::Bad { why }
+    }
+}
+
 impl From<AllocError> for Stop {
     ghost use Rattle.std.specs.Prelude.{◌≡◌};
     ghost use Rattle.wp_check.specs.declared.cause.Stop.TheVariants.{Memory};

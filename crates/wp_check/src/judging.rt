@@ -108,21 +108,17 @@ fn objects_of(alloc: Global, lifted: &Lifted, schema: u32, words: &[Text]) -> Re
     Ok(Args::of_vec(args))
 }
 
-fn object_at(lifted: &Lifted, schema: u32, place: u32, word: &Text) -> Result<u32, Stop>
+fn object_at(lifted: &Lifted, schema: u32, place: u32, word: &Text) -> Result<u32, Why>
     ensures { MatchResult result
         (λ object. (fault_of_object lifted.now schema place (object_named lifted.now word.now) ≡ None)
         × (object ≡ unwrap_or (object_named lifted.now word.now) 0))
-        (λ stop. Stops stop (fault_of_object lifted.now schema place (object_named lifted.now word.now))) }
+        (λ why. fault_of_object lifted.now schema place (object_named lifted.now word.now) ≡ Some why) }
 {
     let Some(object) = lifted.object_of(word) else {
-        return Err(Stop::Bad {
-            why: Why::UnknownObject { place },
-        });
+        return Err(Why::UnknownObject { place });
     };
     if !lifted.fits(schema, place, object) {
-        return Err(Stop::Bad {
-            why: Why::Misfit { place },
-        });
+        return Err(Why::Misfit { place });
     }
     Ok(object)
 }

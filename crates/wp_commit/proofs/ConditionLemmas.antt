@@ -1,9 +1,7 @@
 -- The conditions under which the newborns of an expansion are entered, kept and queued.
-use Rattle.std.proofs.Common.{◌≡◌, ◌≢◌, ◌&&◌, ◌==◌, ℕ, suc, ◌+◌, ◌-◌, ◌<◌, ◌≤◌, Bool, true, false, cond, List, [], ◌∷◌, ◌++◌, Option, Some, None, length, map, refl, sym, ap, ◌∙◌, subst, inl, inr, arith}
-use Rattle.std.specs.Prelude.{IfSome, IsSome, option_map}
+use Rattle.std.proofs.Common.{◌≡◌, ◌≢◌, ℕ, suc, ◌+◌, ◌-◌, ◌<◌, ◌≤◌, Bool, true, false, cond, List, [], ◌∷◌, ◌++◌, Option, Some, None, length, map, refl, sym, ap, subst, inl, inr, arith}
+use Rattle.std.specs.Prelude.{IfSome, option_map}
 use Rattle.std.specs.List.{All, AllPairs, fold, slice_get}
-use Rattle.std.specs.Map.{keys_of}
-use Rattle.std.proofs.lemmas.Bool.{both_ways}
 use Rattle.std.proofs.lemmas.List.{length-map, length_push}
 use Rattle.std.proofs.lemmas.List.Elements.{All-cons}
 use Rattle.std.proofs.lemmas.List.Kept.{AllPairs-cons}
@@ -11,21 +9,18 @@ use Rattle.std.proofs.lemmas.Option.{get_or_from_slice_get, slice_get_within}
 use Rattle.wp_task.specs.Novelty.{Generated, novelty_of}
 use Rattle.wp_task.proofs.Members.{In, In-at, In-map, In-map_cases, In-append_right}
 use Rattle.wp_count.specs.declared.brood.Child.{Child}
-use Rattle.wp_novel.specs.declared.birth.Pair.{Pair}
-use Rattle.wp_novel.specs.Births.{Birth}
-use Rattle.wp_novel.specs.NoveltyTables.{is_pair, words_of, IsOpen}
+use Rattle.wp_novel.specs.NoveltyTables.{NoveltyTables, open_pairs}
 use Rattle.wp_novel.specs.StandsFor.{last_number}
-use Rattle.wp_novel.proofs.TableLemmas.{is_pair_itself}
 use Rattle.wp_nodes.specs.declared.kept.Kept.{Kept}
 use Rattle.wp_plain.specs.Nodes.{Node, generated_in}
 use Rattle.wp_plain.specs.Pairs.{has_pair, with_pair, pairs_in}
 use Rattle.wp_plain.specs.Numbers.{CountUp}
 use Rattle.wp_plain.specs.Explored.{numbered, all_numbered}
-use Rattle.wp_plain.proofs.ListLemmas.{pairs_have}
+use Rattle.wp_plain.proofs.ListLemmas.{pairs_have, has_pair-from_there}
 use Rattle.wp_plain.proofs.NumberLemmas.{number_below}
 use Rattle.wp_plain.proofs.Pigeons.{AreApart}
 use Rattle.wp_commit.specs.declared.newborn.Newborn.{Newborn}
-use Rattle.wp_commit.specs.Newborns.{birth_of, counters_of, newborns_of, AreNew, HasOpenPair}
+use Rattle.wp_commit.specs.Newborns.{newborns_of, AreNew, HasOpenPair}
 
 pub all-from : {X : Type 0} (P : X → Type 0) (xs : List X) → ((x : X) → In x xs → P x) → All P xs
 all-from P [] each = λ k d within. absurd (omega (arith, within))
@@ -48,19 +43,6 @@ pub length-numbered : (n : ℕ) (cs : List Child) → length (all_numbered n cs)
 length-numbered n [] = refl
 length-numbered n (c ∷ cs) = ap suc (length-numbered (n + 1) cs)
 
--- an open pair has words
-words-there : (entries : List (Pair × List ℕ)) (pair : Pair) → In (counters_of pair) (map counters_of (keys_of entries)) → IsOpen entries pair
-words-there [] pair there = absurd there
-words-there (e ∷ entries) pair there = by (is_pair pair e.0) refl there (words-there entries pair) where
-  same : counters_of pair ≡ counters_of e.0 → is_pair pair e.0 ≡ true
-  same is = ap (λ (x : ℕ × ℕ). (pair.g == x.0) && (pair.r == x.1)) (sym is) ∙ is_pair_itself pair
-
-  by : (b : Bool) → is_pair pair e.0 ≡ b → In (counters_of pair) (map counters_of (keys_of (e ∷ entries))) →
-      (In (counters_of pair) (map counters_of (keys_of entries)) → IsOpen entries pair) → IsSome (cond b (Some e.1) (words_of entries pair))
-  by true is among rest = refl
-  by false is (inl here) rest = absurd (both_ways (is_pair pair e.0) is (same here))
-  by false is (inr later) rest = rest later
-
 numbered-there : (n : ℕ) (cs : List Child) (c : Child) → In c cs → (x : Generated) × In x (all_numbered n cs) × (x.counters ≡ (c.g, c.r))
 numbered-there n [] c there = absurd there
 numbered-there n (d ∷ cs) c (inl same) = (numbered n d, inl refl, ap (λ (e : Child). (e.g, e.r)) (sym same))
@@ -69,30 +51,29 @@ numbered-there n (d ∷ cs) c (inr later) =
     (rest.0, inr rest.1, rest.2)
 
 -- the pairs of the children are open where those of all nodes are
-pub children-open : (entries : List (Pair × List ℕ)) (xs : List Generated) (n : ℕ) (cs : List Child) →
-    map counters_of (keys_of entries) ≡ pairs_in (xs ++ all_numbered n cs) → All (HasOpenPair entries) cs
-children-open entries xs n cs same = all-from (HasOpenPair entries) cs (λ c there.
+pub children-open : (t : NoveltyTables) (xs : List Generated) (n : ℕ) (cs : List Child) →
+    open_pairs t ≡ pairs_in (xs ++ all_numbered n cs) → All (HasOpenPair t) cs
+children-open t xs n cs same = all-from (HasOpenPair t) cs (λ c there.
     let found = numbered-there n cs c there in
     let among : In (c.g, c.r) (pairs_in (xs ++ all_numbered n cs)) =
     subst (λ p. In p (pairs_in (xs ++ all_numbered n cs))) found.2
     (pairs_have (xs ++ all_numbered n cs) found.0 (In-append_right xs (all_numbered n cs) found.0 found.1)) in
-    words-there entries (record { g = c.g; r = c.r }) (subst (In (c.g, c.r)) (sym same) among))
+    has_pair-from_there (open_pairs t) (c.g, c.r) (subst (In (c.g, c.r)) (sym same) among))
 
 -- ---- numbers
 -- the last number is below the count
-pub last-below : (nodes : List Node) → CountUp 0 nodes → IfSome (last_number (map birth_of (generated_in nodes))) (λ last. last < length nodes)
+pub last-below : (nodes : List Node) → CountUp 0 nodes → IfSome (last_number (generated_in nodes)) (λ last. last < length nodes)
 last-below nodes counts = by (slice_get births (length births - 1)) refl where
-  births : List Birth
-  births = map birth_of (generated_in nodes)
+  births : List Generated
+  births = generated_in nodes
 
-  by : (o : Option Birth) → slice_get births (length births - 1) ≡ o → IfSome (option_map (λ b. b.number) o) (λ last. last < length nodes)
+  by : (o : Option Generated) → slice_get births (length births - 1) ≡ o → IfSome (option_map (λ b. b.number) o) (λ last. last < length nodes)
   by None is = tt
   by (Some b) is =
       let among : In b births = In-at b births (length births - 1) (slice_get_within births (length births - 1) b is) (get_or_from_slice_get births (length births - 1) b b is) in
-      let born : (x : Generated) × In x (generated_in nodes) × (b ≡ birth_of x) = In-map_cases birth_of (generated_in nodes) b among in
-      let from : (y : Node) × In y nodes × (born.0 ≡ y.generated) = In-map_cases (λ (y : Node). y.generated) nodes born.0 born.1 in
+      let from : (y : Node) × In y nodes × (b ≡ y.generated) = In-map_cases (λ (y : Node). y.generated) nodes b among in
       let below : from.0.generated.number < 0 + length nodes = number_below 0 nodes counts from.0 from.1 in
-      let same : b.number ≡ from.0.generated.number = ap (λ (y : Birth). y.number) born.2 ∙ ap (λ (y : Generated). y.number) from.2 in
+      let same : b.number ≡ from.0.generated.number = ap (λ (y : Generated). y.number) from.2 in
       omega arith
 
 -- ---- newborns

@@ -1,23 +1,13 @@
 -- How a run begins and ends, and what is counted at a moment.
-use Rattle.std.proofs.Common.{◌≡◌, ◌+◌, ℕ, Bool, true, false, List, [], Option, length, sym, ap, ◌∙◌, subst}
+use Rattle.std.proofs.Common.{◌≡◌, ℕ, Bool, true, false, [], length, sym, ap, ◌∙◌, subst}
 use Rattle.std.specs.Bool.{MatchBool}
-use Rattle.std.specs.Map.{keys_of}
-use Rattle.std.proofs.lemmas.List.{length-map}
-use Rattle.std.proofs.lemmas.Map.Entries.{length-keys_of}
 use Rattle.wp_task.specs.Task.{PlanningTask}
-use Rattle.wp_watch.specs.declared.watch.WatchKind.{WatchKind}
-use Rattle.wp_watch.specs.Places.{Place, AreAfter}
-use Rattle.wp_novel.specs.NoveltyTables.{NoveltyTables}
+use Rattle.wp_novel.specs.NoveltyTables.{NoveltyTables, open_pairs}
 use Rattle.wp_plain.specs.declared.settings.Settings.{Settings}
-use Rattle.wp_plain.specs.declared.ending.Counts.{Counts}
-use Rattle.wp_plain.specs.declared.ending.Ending.{Ending}
-use Rattle.wp_plain.specs.declared.ending.How.{How}
-use Rattle.wp_plain.specs.declared.ending.How.TheVariants.{Words}
 use Rattle.wp_plain.specs.Nodes.{generated_in}
 use Rattle.wp_plain.specs.Pairs.{all_tuples, pairs_in, tuple_count, exceeds}
-use Rattle.wp_plain.specs.Run.{Moment, opening, run, run_from, counts_of, ending_from, ending_of}
+use Rattle.wp_plain.specs.Run.{Moment, run}
 use Rattle.wp_commit.specs.declared.searched.Searched.{Searched}
-use Rattle.wp_commit.specs.Newborns.{counters_of}
 use Rattle.wp_commit.specs.Searched.{AreTables, HoldsAt, LeavesTables}
 
 -- the test of the root's own pair
@@ -25,19 +15,17 @@ pub exceeds-is : (words tuples count : ℕ) (tested is : Bool) → tuples ≡ co
 exceeds-is words tuples count tested is same test answer = ap (exceeds words 1) (sym same) ∙ (sym test ∙ answer)
 
 module _ (task : PlanningTask) (settings : Settings) where
-  pub leaves-none : (tables : NoveltyTables) → exceeds settings.words 1 (tuple_count settings.width task.atoms) ≡ true → tables.tables ≡ [] →
+  pub leaves-none : (tables : NoveltyTables) → exceeds settings.words 1 (tuple_count settings.width task.atoms) ≡ true → open_pairs tables ≡ [] →
       LeavesTables task settings tables
   leaves-none tables many empty =
-      subst (λ (b : Bool). MatchBool b (tables.tables ≡ []) (AreTables task settings tables (run task settings (all_tuples task settings)).1.nodes)) (sym many) empty
+      subst (λ (b : Bool). MatchBool b (open_pairs tables ≡ []) (AreTables task settings tables (run task settings (all_tuples task settings)).1.nodes)) (sym many) empty
 
   pub leaves-all : (tables : NoveltyTables) → exceeds settings.words 1 (tuple_count settings.width task.atoms) ≡ false →
       AreTables task settings tables (run task settings (all_tuples task settings)).1.nodes → LeavesTables task settings tables
   leaves-all tables few are =
-      subst (λ (b : Bool). MatchBool b (tables.tables ≡ []) (AreTables task settings tables (run task settings (all_tuples task settings)).1.nodes)) (sym few) are
+      subst (λ (b : Bool). MatchBool b (open_pairs tables ≡ []) (AreTables task settings tables (run task settings (all_tuples task settings)).1.nodes)) (sym few) are
 
 -- as many pairs are open as some node has
 pub pairs-count : (task : PlanningTask) (settings : Settings) (s : Searched) (tables : NoveltyTables) (m : Moment) → HoldsAt task settings s tables m →
-    length tables.tables ≡ length (pairs_in (generated_in m.nodes))
-pairs-count task settings s tables m holds =
-    sym (length-keys_of tables.tables)
-    ∙ (sym (length-map (keys_of tables.tables) counters_of) ∙ ap length holds.words.pairs)
+    length (open_pairs tables) ≡ length (pairs_in (generated_in m.nodes))
+pairs-count task settings s tables m holds = ap length holds.words.pairs

@@ -3,7 +3,6 @@ use Rattle.std.proofs.Common.{◌≡◌, ℕ, ◌-◌, ◌<◌, ◌≤◌, Some,
 use Rattle.std.specs.Bool.{beq}
 use Rattle.std.specs.Cmp.Lexicographic.{pointwise}
 use Rattle.std.specs.List.{All, Contains, fold, list_any, range_with_len}
-use Rattle.std.specs.Map.{keys_of}
 use Rattle.std.proofs.lemmas.List.{length-map}
 use Rattle.std.proofs.lemmas.List.FromFn.{length-range_with_len}
 use Rattle.std.proofs.lemmas.List.Elements.{All-nil, All-cons}
@@ -14,7 +13,7 @@ use Rattle.wp_task.specs.Task.{PlanningTask, act_at, applies, applicable_in, goa
 use Rattle.wp_task.proofs.PlanLemmas.{length-result_of}
 use Rattle.wp_count.specs.declared.brood.Child.{Child}
 use Rattle.wp_count.specs.Broods.{with_achieved, base_child, later_child, child_of, children_of}
-use Rattle.wp_novel.specs.NoveltyTables.{NoveltyTables}
+use Rattle.wp_novel.specs.NoveltyTables.{NoveltyTables, counters_of, open_pairs}
 use Rattle.wp_nodes.specs.declared.kept.Kept.{Kept}
 use Rattle.wp_nodes.specs.KeptNodes.{node_of, AreLinked}
 use Rattle.wp_plain.specs.Nodes.{Successor}
@@ -24,7 +23,7 @@ use Rattle.wp_plain.specs.Expansion.{unseen}
 use Rattle.wp_plain.proofs.UnseenLemmas.{unseen-few, unseen-all}
 use Rattle.wp_commit.specs.declared.evaluation.Expansion.{Expansion}
 use Rattle.wp_commit.specs.declared.searched.Searched.{Searched}
-use Rattle.wp_commit.specs.Newborns.{counters_of, AreUnopened}
+use Rattle.wp_commit.specs.Newborns.{AreUnopened}
 use Rattle.wp_commit.specs.Expansions.{states_of, successors_by, brood_of, IsExpansionOf}
 
 -- one item more of a list that is made one by one
@@ -114,8 +113,8 @@ pub expansion-is : (task : PlanningTask) (s : Searched) (tables : NoveltyTables)
     numbers ≡ applicable_in task.acts k.state → track ≡ track_at s.nodes.tracks k.mark.track →
     reached ≡ unseen (λ y. y.state) (states_of s.nodes.kept) (successors_by task.acts k.state numbers) →
     x.fresh.items ≡ map (λ y. child_of task k.mark track y.act y.state) reached → x.repeats ≡ length numbers - length reached →
-    map counters_of (keys_of tables.tables ++ x.pairs.items) ≡ fold with_pair (map counters_of (keys_of tables.tables)) (map child_pair x.fresh.items) →
-    AreUnopened tables.tables x.pairs.items → IsExpansionOf task s tables number x
+    open_pairs tables ++ map counters_of x.pairs.items ≡ fold with_pair (open_pairs tables) (map child_pair x.fresh.items) →
+    AreUnopened (open_pairs tables) (map counters_of x.pairs.items) → IsExpansionOf task s tables number x
 expansion-is task s tables number x k numbers track reached found there named tracked linked numbers_are track_is reached_are fresh_are repeats_are pairs_are unopened =
     let acts = task.acts in
     let brood : List Child = brood_of task s.nodes k in

@@ -2,7 +2,6 @@
 use Rattle.std.proofs.Common.{◌≡◌, ◌⊎◌, ℕ, ◌+◌, ◌-◌, ◌*◌, ◌^◌, ◌<◌, ◌≤◌, List, [], ◌∷◌, ◌++◌, Option, Some, None, length, map, refl, sym, ap, ◌∙◌, subst, inl, inr, length-append, length-set, arith}
 use Rattle.std.specs.Prelude.{IfSome}
 use Rattle.std.specs.List.{All, Contains, count_by, filter, fold}
-use Rattle.std.specs.Map.{keys_of}
 use Rattle.std.proofs.lemmas.List.{length-map, length_push, map-append, get_or-append-add, get_or_append_left}
 use Rattle.std.proofs.lemmas.List.Elements.{All-contains, filter-append}
 use Rattle.std.proofs.lemmas.List.Sums.{count_by-le-length, length-filter, sum_by_push}
@@ -15,7 +14,7 @@ use Rattle.wp_count.specs.Laws.{IsEvaluated, IsMarked, ChildrenAreEvaluated, mar
 use Rattle.wp_watch.specs.declared.event.Event.{Event}
 use Rattle.wp_watch.specs.Sums.{repeats_in}
 use Rattle.wp_novel.specs.declared.birth.Pair.{Pair}
-use Rattle.wp_novel.specs.NoveltyTables.{NoveltyTables}
+use Rattle.wp_novel.specs.NoveltyTables.{NoveltyTables, counters_of, open_pairs, IsAtHome}
 use Rattle.wp_novel.specs.StandsFor.{StandsFor, last_number}
 use Rattle.wp_tuples.specs.TuplePlaces.{Indexed}
 use Rattle.wp_nodes.specs.declared.kept.Back.{Back}
@@ -32,11 +31,11 @@ use Rattle.wp_plain.specs.Steps.{IsBounded}
 use Rattle.wp_plain.specs.Explored.{bare, child_pair, all_numbered, track_at, ChildrenAreNumbered}
 use Rattle.wp_plain.proofs.NumberLemmas.{number_below, kept-set}
 use Rattle.wp_plain.proofs.Pigeons.{AreApart}
-use Rattle.wp_plain.proofs.UnseenLemmas.{unseen-all, unseen-apart, unseen-few, unseen-new}
+use Rattle.wp_plain.proofs.UnseenLemmas.{unseen-all, unseen-apart, unseen-new}
 use Rattle.wp_commit.specs.declared.evaluation.Expansion.{Expansion}
 use Rattle.wp_commit.specs.declared.newborn.Newborn.{Newborn}
 use Rattle.wp_commit.specs.declared.searched.Searched.{Searched}
-use Rattle.wp_commit.specs.Newborns.{birth_of, counters_of, newborns_of, kept_as, with_newborns, waiting_of, born_as, event_as, AreNew, AreQueued, HasOpenPair, IsCommitted}
+use Rattle.wp_commit.specs.Newborns.{newborns_of, kept_as, with_newborns, waiting_of, event_as, AreNew, AreQueued, HasOpenPair, IsCommitted}
 use Rattle.wp_commit.specs.Expansions.{brood_of, IsExpansionOf}
 use Rattle.wp_commit.specs.Searched.{shown_kept, shown, plans_in, IsOnPath, AreCounted, AreWaiting, HoldsAt, IsTakenAt, StandsAt, without}
 use Rattle.wp_commit.proofs.ConditionLemmas.{all-from, children-open, last-below, length-numbered, newborns-new, pairs-few}
@@ -161,20 +160,19 @@ module _ (task : PlanningTask) (settings : Settings) (s : Searched) (tables : No
 
     -- the pairs, with those of the children
     pub pairs-are : (pairs : List Pair) →
-        map counters_of (keys_of tables.tables ++ pairs) ≡ fold with_pair (map counters_of (keys_of tables.tables)) (map child_pair fresh) →
-        map counters_of (keys_of tables.tables ++ pairs) ≡ pairs_in (all_at task m node)
+        open_pairs tables ++ map counters_of pairs ≡ fold with_pair (open_pairs tables) (map child_pair fresh) →
+        open_pairs tables ++ map counters_of pairs ≡ pairs_in (all_at task m node)
     pairs-are pairs pairs_is =
         pairs_is
         ∙ (ap (λ ps. fold with_pair ps (map child_pair fresh)) at.holds.words.pairs
         ∙ (law.children.pairs (generated_in m.nodes) n fresh ∙ ap pairs_in (sym all-are)))
 
     pub needed-is : (pairs : List Pair) →
-        map counters_of (keys_of tables.tables ++ pairs) ≡ fold with_pair (map counters_of (keys_of tables.tables)) (map child_pair fresh) →
-        length tables.tables + length pairs ≡ length (pairs_in (all_at task m node))
+        open_pairs tables ++ map counters_of pairs ≡ fold with_pair (open_pairs tables) (map child_pair fresh) →
+        length (open_pairs tables) + length pairs ≡ length (pairs_in (all_at task m node))
     needed-is pairs pairs_is =
-        (λ j. sym (length-map tables.tables (λ e. e.0)) j + length pairs)
-        ∙ (sym (length-append (keys_of tables.tables) pairs)
-        ∙ (sym (length-map (keys_of tables.tables ++ pairs) counters_of) ∙ ap length (pairs-are pairs pairs_is)))
+        ap (λ n. length (open_pairs tables) + n) (sym (length-map pairs counters_of))
+        ∙ (sym (length-append (open_pairs tables) (map counters_of pairs)) ∙ ap length (pairs-are pairs pairs_is))
 
     abbrev next : Moment
     next = next_of task settings m node
@@ -206,8 +204,8 @@ module _ (task : PlanningTask) (settings : Settings) (s : Searched) (tables : No
         (omega (arith, length-nodes), omega arith, omega arith)
 
     -- ---- after it
-    module _ (pairs : List Pair) (words : NoveltyTables) (newborns : List Newborn) (repeats : ℕ) (later : Searched)
-        (pairs_is : map counters_of (keys_of tables.tables ++ pairs) ≡ fold with_pair (map counters_of (keys_of tables.tables)) (map child_pair fresh))
+    module _ (pairs : List Pair) (tables_later : NoveltyTables) (newborns : List Newborn) (repeats : ℕ) (later : Searched)
+        (pairs_is : open_pairs tables ++ map counters_of pairs ≡ fold with_pair (open_pairs tables) (map child_pair fresh))
         (newborns_are : newborns ≡ newborns_of settings.width all n fresh)
         (repeats_is : repeats ≡ length brood - length fresh)
         (tracked : k.mark.track < length s.nodes.tracks)
@@ -304,9 +302,9 @@ module _ (task : PlanningTask) (settings : Settings) (s : Searched) (tables : No
             repeats = committed.repeats_are ∙ ((λ j. old.repeats j + sym repeats_now j) ∙ sym (sum_by_push (λ x. x.repeats) m.events event));
           }
 
-      pub holds-next : StandsFor words (map birth_of all) → keys_of words.tables ≡ keys_of tables.tables ++ pairs →
-          words.index ≡ tables.index → words.limit ≡ tables.limit → HoldsAt task settings later words next
-      holds-next births keys index limit =
+      pub holds-next : StandsFor tables_later all → open_pairs tables_later ≡ open_pairs tables ++ map counters_of pairs → IsAtHome tables_later →
+          tables_later.index ≡ tables.index → tables_later.limit ≡ tables.limit → HoldsAt task settings later tables_later next
+      holds-next births opened home index limit =
           let generated : generated_in next.nodes ≡ all_at task m node = (law.nodes.stays task settings m node at.holds.numbers at.there).generated in
           record {
             numbers = (law.nodes.stays task settings m node at.holds.numbers at.there).numbered;
@@ -317,8 +315,9 @@ module _ (task : PlanningTask) (settings : Settings) (s : Searched) (tables : No
             words = record {
               index = index ∙ at.holds.words.index;
               limit = limit ∙ at.holds.words.limit;
-              births = subst (λ l. StandsFor words (map birth_of l)) (sym (generated ∙ all-are)) births;
-              pairs = ap (map counters_of) keys ∙ (pairs-are pairs pairs_is ∙ ap pairs_in (sym generated));
+              births = subst (StandsFor tables_later) (sym (generated ∙ all-are)) births;
+              pairs = opened ∙ (pairs-are pairs pairs_is ∙ ap pairs_in (sym generated));
+              home = home;
             };
             counts = counts-later;
           }
@@ -333,18 +332,18 @@ pub record IsEvaluatedAt (task : PlanningTask) (s : Searched) (tables : NoveltyT
   pub tracked : k.mark.track < length s.nodes.tracks
   pub brood_is : brood ≡ children_of task k.state k.mark (track_at s.nodes.tracks k.mark.track)
   pub fresh_is : fresh ≡ unseen (λ c. c.state) (map (λ x. x.state) s.nodes.kept) brood
-  pub pairs_is : map counters_of (keys_of tables.tables ++ pairs) ≡ fold with_pair (map counters_of (keys_of tables.tables)) (map child_pair fresh)
+  pub pairs_is : open_pairs tables ++ map counters_of pairs ≡ fold with_pair (open_pairs tables) (map child_pair fresh)
 
 module _ (task : PlanningTask) (settings : Settings) (s : Searched) (tables : NoveltyTables) (number : ℕ) (k : Kept) (brood fresh : List Child) (pairs : List Pair)
     (ev : IsEvaluatedAt task s tables number k brood fresh pairs) (m : Moment) (node : Node) (at : IsTakenAt task settings s tables m node number) where
-  pub needed-length : length tables.tables + length pairs ≡ length (pairs_in (all_at task m node))
+  pub needed-length : length (open_pairs tables) + length pairs ≡ length (pairs_in (all_at task m node))
   needed-length =
       needed-is task settings s tables m node number at ev.linked k ev.there ev.named ev.law brood fresh ev.brood_is ev.fresh_is pairs ev.pairs_is
 
   all-at-are : all_at task m node ≡ generated_in m.nodes ++ all_numbered (length m.nodes) fresh
   all-at-are = all-are task settings s tables m node number at ev.linked k ev.there ev.named ev.law brood fresh ev.brood_is ev.fresh_is
 
-  pub needed-few : length tables.tables + length pairs ≤ s.numbered + length fresh
+  pub needed-few : length (open_pairs tables) + length pairs ≤ s.numbered + length fresh
   needed-few =
       let few : length (pairs_in (all_at task m node)) ≤ length (all_at task m node) = pairs-few (all_at task m node) in
       let count : length (all_at task m node) ≡ length m.nodes + length fresh =
@@ -354,10 +353,10 @@ module _ (task : PlanningTask) (settings : Settings) (s : Searched) (tables : No
       let numbered_is : s.numbered ≡ length m.nodes = at.holds.counts.numbered in
       omega (arith, needed-length)
 
-  pub all-open : (entries : List (Pair × List ℕ)) → keys_of entries ≡ keys_of tables.tables ++ pairs → All (HasOpenPair entries) fresh
-  all-open entries keys =
-      children-open entries (generated_in m.nodes) (length m.nodes) fresh
-      (ap (map counters_of) keys
+  pub all-open : (opened : NoveltyTables) → open_pairs opened ≡ open_pairs tables ++ map counters_of pairs → All (HasOpenPair opened) fresh
+  all-open opened same =
+      children-open opened (generated_in m.nodes) (length m.nodes) fresh
+      (same
       ∙ (pairs-are task settings s tables m node number at ev.linked k ev.there ev.named ev.law brood fresh ev.brood_is ev.fresh_is pairs ev.pairs_is
       ∙ ap pairs_in all-at-are))
 
@@ -373,7 +372,7 @@ module _ (task : PlanningTask) (settings : Settings) (s : Searched) (tables : No
   pub last-before : (last : Option ℕ) → last ≡ tables.last → IfSome last (λ l. l < s.numbered)
   last-before last same =
       subst (λ o. IfSome o (λ l. l < s.numbered)) (sym (same ∙ at.holds.words.births.last))
-      (subst (λ i. IfSome (last_number (map birth_of (generated_in m.nodes))) (λ l. l < i)) (sym at.holds.counts.numbered)
+      (subst (λ i. IfSome (last_number (generated_in m.nodes)) (λ l. l < i)) (sym at.holds.counts.numbered)
       (last-below m.nodes at.holds.numbers.numbers))
 
   pub newborns-here : (width : ℕ) (newborns : List Newborn) → width ≡ settings.width →
@@ -404,12 +403,13 @@ module _ (task : PlanningTask) (settings : Settings) (s : Searched) (tables : No
   event-for = event-is task settings s tables m node number at ev.linked k ev.there ev.named ev.law brood fresh ev.brood_is ev.fresh_is
 
   -- the search stands for the next moment
-  pub goes : (words : NoveltyTables) (newborns : List Newborn) (repeats : ℕ) (later : Searched) →
+  pub goes : (tables_later : NoveltyTables) (newborns : List Newborn) (repeats : ℕ) (later : Searched) →
       newborns ≡ newborns_of settings.width (generated_in m.nodes ++ all_numbered (length m.nodes) fresh) (length m.nodes) fresh →
       repeats ≡ length brood - length fresh → IsCommitted settings number k.mark.track newborns repeats s later →
-      StandsFor words (map birth_of (generated_in m.nodes ++ all_numbered (length m.nodes) fresh)) → keys_of words.tables ≡ keys_of tables.tables ++ pairs →
-      words.index ≡ tables.index → words.limit ≡ tables.limit → StandsAt task settings later words (next_of task settings m node)
-  goes words newborns repeats later newborns_are repeats_is committed births keys words_index limit =
+      StandsFor tables_later (generated_in m.nodes ++ all_numbered (length m.nodes) fresh) →
+      open_pairs tables_later ≡ open_pairs tables ++ map counters_of pairs → IsAtHome tables_later →
+      tables_later.index ≡ tables.index → tables_later.limit ≡ tables.limit → StandsAt task settings later tables_later (next_of task settings m node)
+  goes tables_later newborns repeats later newborns_are repeats_is committed births opened home index limit =
       let n = length m.nodes in
       let all = generated_in m.nodes ++ all_numbered n fresh in
       let earlier = without m.nodes node in
@@ -417,7 +417,7 @@ module _ (task : PlanningTask) (settings : Settings) (s : Searched) (tables : No
       subst (λ l. AreQueued s.queue (waiting_of settings l) later.queue) newborns_are committed.queue in
       record {
         holds = holds-next task settings s tables m node number at ev.linked k ev.there ev.named ev.law brood fresh ev.brood_is ev.fresh_is
-            pairs words newborns repeats later ev.pairs_is newborns_are repeats_is ev.tracked committed births keys words_index limit;
+            pairs tables_later newborns repeats later ev.pairs_is newborns_are repeats_is ev.tracked committed births opened home index limit;
         waiting = subst (λ l. AreWaiting later.queue (earlier ++ l))
             (sym (nodes-are task settings s tables m node number at ev.linked k ev.there ev.named ev.law brood fresh ev.brood_is ev.fresh_is))
             (waiting-later settings all n fresh earlier s.queue later.queue at.waiting queued);

@@ -1,18 +1,15 @@
 -- The root alone: what the tables hold of it, and what the search keeps.
-use Rattle.std.proofs.Common.{◌≡◌, ℕ, ◌*◌, ◌≤◌, Bool, true, false, List, [], ◌∷◌, length, map, Some, None, is_some, refl, sym, ap, ◌∙◌, subst, inr, ⊎_elim, arith}
+use Rattle.std.proofs.Common.{◌≡◌, ℕ, ◌*◌, ◌≤◌, Bool, true, false, List, [], ◌∷◌, length, Some, None, refl, sym, ap, ◌∙◌, subst, inl, inr, ⊎_elim, arith}
 use Rattle.std.specs.List.{Contains}
-use Rattle.std.specs.Map.{keys_of}
-use Rattle.std.proofs.lemmas.Bool.{cond-true, ltb-false}
-use Rattle.std.proofs.lemmas.Map.Made.{IsSome-lookup_same_keys}
+use Rattle.std.proofs.lemmas.Bool.{ltb-false}
 use Rattle.wp_task.specs.declared.track.Mark.{Mark}
 use Rattle.wp_task.specs.Task.{PlanningTask}
 use Rattle.wp_task.specs.Novelty.{Generated, novelty_of}
+use Rattle.wp_task.proofs.Members.{In}
 use Rattle.wp_count.specs.Laws.{HasCounters, IsMarked, MarksCount}
 use Rattle.wp_novel.specs.declared.birth.Pair.{Pair}
-use Rattle.wp_novel.specs.Births.{Birth}
-use Rattle.wp_novel.specs.NoveltyTables.{NoveltyTables, is_pair, words_of, IsOpen}
-use Rattle.wp_novel.specs.StandsFor.{generated_of, StandsFor}
-use Rattle.wp_novel.proofs.TableLemmas.{is_pair_itself}
+use Rattle.wp_novel.specs.NoveltyTables.{NoveltyTables, pairs_of, open_pairs, home_of, IsOpen, IsAtHome}
+use Rattle.wp_novel.specs.StandsFor.{StandsFor}
 use Rattle.wp_queue.specs.declared.queue.Waiting.{Waiting}
 use Rattle.wp_queue.specs.OpenList.{waiting, IsWith}
 use Rattle.wp_nodes.specs.declared.kept.Kept.{Kept}
@@ -23,63 +20,64 @@ use Rattle.wp_plain.specs.Pairs.{exceeds}
 use Rattle.wp_plain.specs.Expansion.{path_counters, generated_at, root_of}
 use Rattle.wp_plain.specs.Explored.{track_at}
 use Rattle.wp_plain.specs.Run.{opening}
-use Rattle.wp_commit.specs.Newborns.{birth_of, counters_of}
+use Rattle.wp_plain.proofs.ListLemmas.{has_pair-from_there}
 use Rattle.wp_commit.specs.Searched.{shown, IsOnPath, AreKept, IsWaiting, AreWaiting, AreTables, StandsAt}
 use Rattle.wp_commit.proofs.KeepLemmas.{Contains-one}
 
 -- ---- the root's pair
+no_home : (homes : _) (pair : Pair) (home : _) → pairs_of homes ≡ [] → home_of homes pair ≡ Some home → ⊥
+no_home [] pair home none found = cc
+no_home (h ∷ homes) pair home none found = cc
+
 -- empty tables stand for no birth
-pub stands_empty : (t : NoveltyTables) → t.tables ≡ [] → t.last ≡ None → StandsFor t []
+pub stands_empty : (t : NoveltyTables) → open_pairs t ≡ [] → t.last ≡ None → StandsFor t []
 stands_empty t empty collected = record {
   rising = λ i j d less within. absurd (omega arith);
   pairs = λ k d within. absurd (omega arith);
   last = collected;
-  words = λ pair words found tuple there.
-      let none : None ≡ Some words = sym (ap (λ tables. words_of tables pair) empty) ∙ found in absurd (cc);
+  firsts = λ pair home found tuple there. absurd (no_home t.homes pair home empty found);
 }
 
 -- the only pair is open
-pub open_alone : (tables : List (Pair × List ℕ)) (pair : Pair) → keys_of tables ≡ pair ∷ [] → IsOpen tables pair
-open_alone tables pair keys =
-    let one : List (Pair × List ℕ) = (pair, []) ∷ [] in
-    (IsSome-lookup_same_keys (is_pair pair) tables one keys).1
-    (ap is_some (cond-true (is_pair pair pair) (Some []) None (is_pair_itself pair)))
+pub open_alone : (t : NoveltyTables) (x : ℕ × ℕ) → open_pairs t ≡ x ∷ [] → IsOpen t x
+open_alone t x opened = has_pair-from_there (open_pairs t) x (subst (In x) (sym opened) (inl refl))
 
 -- a pair's words are within the limit
 pub one_within : (words tuples : ℕ) → exceeds words 1 tuples ≡ false → tuples ≤ words
 one_within words tuples few = let room : 1 * tuples ≤ words = ltb-false words (1 * tuples) few in omega arith
 
 -- ---- the root alone
--- the root as it is entered, and as it is kept
-abbrev pub root_birth : List Bool → Mark → Birth
-root_birth state mark = record { number = 0; pair = record { g = mark.g; r = mark.r }; state = state }
+-- the root as it is generated, and as it is kept
+abbrev pub root_birth : List Bool → Mark → Generated
+root_birth state mark = record { number = 0; counters = (mark.g, mark.r); state = state }
 
 abbrev pub root_kept : List Bool → Mark → ℕ → Kept
 root_kept state mark w = record { number = 0; w = w; back = None; state = state; mark = mark }
 
--- what is known of a root once it is entered and kept
+-- what is known of a root once it is marked and kept
 pub record IsRootAlone (task : PlanningTask) (settings : Settings) (tables : NoveltyTables) (nodes : Keeping) (queue : List Waiting)
     (state : List Bool) (mark : Mark) (track : List ℕ) (w : ℕ) : Type 0 where
   pub state_is : state ≡ task.init
   pub track_is : mark.track ≡ 0
   pub marked : IsMarked task state [] mark track
-  pub w_is : w ≡ novelty_of settings.width (generated_of (root_birth state mark) ∷ []) (generated_of (root_birth state mark))
+  pub w_is : w ≡ novelty_of settings.width (root_birth state mark ∷ []) (root_birth state mark)
   pub index : tables.index ≡ record { atoms = task.atoms; width = settings.width }
   pub limit : tables.limit ≡ settings.words
   pub births : StandsFor tables (root_birth state mark ∷ [])
-  pub pairs : keys_of tables.tables ≡ record { g = mark.g; r = mark.r } ∷ []
+  pub pairs : open_pairs tables ≡ (mark.g, mark.r) ∷ []
+  pub home : IsAtHome tables
   pub nodes_are : nodes ≡ record { kept = root_kept state mark w ∷ []; tracks = track ∷ [] }
   pub queued : IsWith [] (waiting w mark.g 0) queue
 
 module _ (task : PlanningTask) (settings : Settings) (counts : MarksCount) (tables : NoveltyTables) (nodes : Keeping) (queue : List Waiting)
     (state : List Bool) (mark : Mark) (track : List ℕ) (w : ℕ) (alone : IsRootAlone task settings tables nodes queue state mark track w) where
-  generated_is : generated_of (root_birth state mark) ≡ generated_at (path_counters task) [] 0 task.init
+  generated_is : root_birth state mark ≡ generated_at (path_counters task) [] 0 task.init
   generated_is =
       let counters : HasCounters task state [] mark.g mark.r = counts task state [] mark track alone.marked in
       (λ j. (let x : Generated = record { number = 0; counters = (counters.unmet j, counters.relaxed j); state = state } in x))
       ∙ ap (generated_at (path_counters task) [] 0) alone.state_is
 
-  node_is : ◌≡◌ {A = Node} (record { generated = generated_of (root_birth state mark); w = w; kept = true; waits = true }) (root_of task settings)
+  node_is : ◌≡◌ {A = Node} (record { generated = root_birth state mark; w = w; kept = true; waits = true }) (root_of task settings)
   node_is =
       let novelty = alone.w_is ∙ (λ j. novelty_of settings.width (generated_is j ∷ []) (generated_is j)) in
       λ j. (let n : Node = record { generated = generated_is j; w = novelty j; kept = true; waits = true } in n)
@@ -98,12 +96,13 @@ module _ (task : PlanningTask) (settings : Settings) (counts : MarksCount) (tabl
     on_paths = λ k there. subst (IsOnPath task (opening task settings).paths (track ∷ [])) (sym ((Contains-one (root_kept state mark w) k).0 there)) on_path;
   })
 
-  root_is_entered : AreTables task settings tables (opening task settings).nodes
-  root_is_entered = record {
+  root_is_marked : AreTables task settings tables (opening task settings).nodes
+  root_is_marked = record {
     index = alone.index;
     limit = alone.limit;
-    births = subst (λ x. StandsFor tables (birth_of x ∷ [])) generated_is alone.births;
-    pairs = ap (map counters_of) alone.pairs ∙ (λ j. (generated_is j).counters ∷ []);
+    births = subst (λ x. StandsFor tables (x ∷ [])) generated_is alone.births;
+    pairs = alone.pairs ∙ (λ j. (generated_is j).counters ∷ []);
+    home = alone.home;
   }
 
   root_waits : AreWaiting queue (opening task settings).nodes
@@ -129,7 +128,7 @@ module _ (task : PlanningTask) (settings : Settings) (counts : MarksCount) (tabl
     holds = record {
       numbers = record { count = refl; numbers = (refl, tt) };
       nodes = root_is_kept;
-      words = root_is_entered;
+      words = root_is_marked;
       counts = record {
         numbered = refl;
         kept = sym (ap (λ n. length n.kept) alone.nodes_are);

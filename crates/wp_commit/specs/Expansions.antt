@@ -1,11 +1,10 @@
 -- An expansion as it is evaluated: the successors of the node in hand that are no repeats, with their counters.
 use Rattle.std.specs.Prelude.{◌≡◌, ◌+◌, ◌^◌, ◌<◌, ◌≤◌, ℕ, Bool, List, ◌++◌, length, map, fold, Contains, Some}
-use Rattle.std.specs.Map.{keys_of}
 use Rattle.wp_task.specs.declared.acts.Act.{Act}
 use Rattle.wp_task.specs.Task.{PlanningTask, act_at, result_of}
 use Rattle.wp_count.specs.declared.brood.Child.{Child}
 use Rattle.wp_count.specs.Broods.{children_of}
-use Rattle.wp_novel.specs.NoveltyTables.{NoveltyTables}
+use Rattle.wp_novel.specs.NoveltyTables.{NoveltyTables, counters_of, open_pairs, IsAtHome}
 use Rattle.wp_novel.specs.StandsFor.{StandsFor}
 use Rattle.wp_nodes.specs.declared.kept.Kept.{Kept}
 use Rattle.wp_nodes.specs.KeptNodes.{Keeping, node_of, IsKept, AreLinked}
@@ -18,7 +17,7 @@ use Rattle.wp_plain.specs.Run.{Moment}
 use Rattle.wp_commit.specs.declared.births.Numbered.{Numbered}
 use Rattle.wp_commit.specs.declared.evaluation.Expansion.{Expansion}
 use Rattle.wp_commit.specs.declared.searched.Searched.{Searched}
-use Rattle.wp_commit.specs.Newborns.{birth_of, counters_of, newborns_of, AreNew, AreUnopened}
+use Rattle.wp_commit.specs.Newborns.{newborns_of, AreNew, AreUnopened}
 use Rattle.wp_commit.specs.Searched.{IsTakenAt}
 
 abbrev pub states_of : List Kept → List (List Bool)
@@ -43,25 +42,25 @@ pub record IsExpansionOf (task : PlanningTask) (s : Searched) (tables : NoveltyT
   pub unseen_are : x.fresh.items ≡ unseen (λ c. c.state) (states_of s.nodes.kept) (brood_of task s.nodes node)
   pub repeats_are : x.repeats + length x.fresh.items ≡ length (brood_of task s.nodes node)
   pub few : length (brood_of task s.nodes node) ≤ length task.acts
-  pub pairs_are : map counters_of (keys_of tables.tables ++ x.pairs.items)
-      ≡ fold with_pair (map counters_of (keys_of tables.tables)) (map child_pair x.fresh.items)
-  pub unopened : AreUnopened tables.tables x.pairs.items
+  pub pairs_are : open_pairs tables ++ map counters_of x.pairs.items ≡ fold with_pair (open_pairs tables) (map child_pair x.fresh.items)
+  pub unopened : AreUnopened (open_pairs tables) (map counters_of x.pairs.items)
 
 -- ---- numbers and novelties
 -- the children have the next numbers, and their novelties among all nodes; the tables stand for all of them, and have the pairs
-pub record IsEnteredAt (settings : Settings) (tables : NoveltyTables) (x : Expansion) (words : NoveltyTables) (m : Moment) (numbered : Numbered) : Type 0 where
+pub record IsEnteredAt (settings : Settings) (tables : NoveltyTables) (x : Expansion) (later : NoveltyTables) (m : Moment) (numbered : Numbered) : Type 0 where
   pub newborns : numbered.newborns.items
       ≡ newborns_of settings.width (generated_in m.nodes ++ all_numbered (length m.nodes) x.fresh.items) (length m.nodes) x.fresh.items
   pub repeats : numbered.repeats ≡ x.repeats
-  pub births : StandsFor words (map birth_of (generated_in m.nodes ++ all_numbered (length m.nodes) x.fresh.items))
-  pub keys : keys_of words.tables ≡ keys_of tables.tables ++ x.pairs.items
-  pub index : words.index ≡ tables.index
-  pub limit : words.limit ≡ tables.limit
+  pub births : StandsFor later (generated_in m.nodes ++ all_numbered (length m.nodes) x.fresh.items)
+  pub pairs : open_pairs later ≡ open_pairs tables ++ map counters_of x.pairs.items
+  pub home : IsAtHome later
+  pub index : later.index ≡ tables.index
+  pub limit : later.limit ≡ tables.limit
 
 -- the same, at each moment at which the node was taken
 abbrev pub IsEnteredOf : PlanningTask → Settings → Searched → NoveltyTables → ℕ → Expansion → NoveltyTables → Numbered → Type 0
-IsEnteredOf task settings s tables number x words numbered = (m : Moment) (node : Node) →
-    IsTakenAt task settings s tables m node number → IsEnteredAt settings tables x words m numbered
+IsEnteredOf task settings s tables number x later numbered = (m : Moment) (node : Node) →
+    IsTakenAt task settings s tables m node number → IsEnteredAt settings tables x later m numbered
 
 -- ---- what is kept
 -- the newborns can be kept as children of the node, and counted

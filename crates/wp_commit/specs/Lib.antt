@@ -1,3 +1,4 @@
 pub mod Expansions
 pub mod Newborns
+pub mod Phases
 pub mod Searched

@@ -1,5 +1,5 @@
 -- The children that an expansion numbers, and what the search keeps of them.
-use Rattle.std.specs.Prelude.{◌≡◌, ◌≢◌, ◌⊎◌, ◌↔◌, ◌+◌, ◌<◌, ℕ, true, false, List, [], ◌∷◌, ◌++◌, length, map, filter, fold, All, Contains, Some, None}
+use Rattle.std.specs.Prelude.{◌≡◌, ◌≢◌, ◌⊎◌, ◌↔◌, ◌+◌, ◌<◌, ℕ, true, false, List, [], ◌∷◌, ◌++◌, length, map, filter, fold, All, Contains, Some}
 use Rattle.std.specs.List.{AllPairs}
 use Rattle.std.specs.Option.{option_to_list}
 use Rattle.wp_task.specs.Novelty.{Generated, novelty_of}
@@ -7,9 +7,7 @@ use Rattle.wp_count.specs.declared.brood.Child.{Child}
 use Rattle.wp_count.specs.Laws.{mark_of}
 use Rattle.wp_watch.specs.declared.event.Born.{Born}
 use Rattle.wp_watch.specs.declared.event.Event.{Event}
-use Rattle.wp_novel.specs.declared.birth.Pair.{Pair}
-use Rattle.wp_novel.specs.Births.{Birth}
-use Rattle.wp_novel.specs.NoveltyTables.{words_of, IsOpen}
+use Rattle.wp_novel.specs.NoveltyTables.{NoveltyTables, IsOpen}
 use Rattle.wp_queue.specs.declared.queue.Waiting.{Waiting}
 use Rattle.wp_queue.specs.OpenList.{waiting, InOrder}
 use Rattle.wp_nodes.specs.declared.kept.Kept.{Kept}
@@ -17,23 +15,17 @@ use Rattle.wp_nodes.specs.KeptNodes.{Keeping}
 use Rattle.wp_plain.specs.declared.settings.Settings.{Settings}
 use Rattle.wp_plain.specs.Expansion.{keeps}
 use Rattle.wp_plain.specs.Explored.{numbered, track_number}
+use Rattle.wp_plain.specs.Pairs.{has_pair}
 use Rattle.wp_commit.specs.declared.births.Rest.{Rest}
 use Rattle.wp_commit.specs.declared.newborn.Newborn.{Newborn}
 use Rattle.wp_commit.specs.declared.searched.Searched.{Searched}
 
--- a generated node as it is entered into novelty tables
-abbrev pub birth_of : Generated → Birth
-birth_of x = record { number = x.number; pair = record { g = x.counters.0; r = x.counters.1 }; state = x.state }
-
--- what a child has besides, and the child of both
+-- what a child has besides what it is generated as, and the child of both
 abbrev pub rest_of : Child → Rest
 rest_of c = record { act = c.act; got = c.got; fresh = c.fresh }
 
-abbrev pub child_with : Birth → Rest → Child
-child_with b rest = record { act = rest.act; state = b.state; g = b.pair.g; r = b.pair.r; got = rest.got; fresh = rest.fresh }
-
-abbrev pub counters_of : Pair → ℕ × ℕ
-counters_of pair = (pair.g, pair.r)
+abbrev pub child_with : Generated → Rest → Child
+child_with x rest = record { act = rest.act; state = x.state; g = x.counters.0; r = x.counters.1; got = rest.got; fresh = rest.fresh }
 
 -- the children with the next numbers, and their novelty among all nodes
 abbrev pub newborns_of : ℕ → List Generated → ℕ → List Child → List Newborn
@@ -82,14 +74,14 @@ pub record AreQueued (old more new : List Waiting) : Type 0 where
   pub has : (x : Waiting) → Contains new x ↔ (Contains old x ⊎ Contains more x)
 
 -- ---- pairs
--- none of the pairs is open, and none is there twice
-pub record AreUnopened (tables : List (Pair × List ℕ)) (pairs : List Pair) : Type 0 where
-  pub unopened : All (λ pair. words_of tables pair ≡ None) pairs
-  pub once : AllPairs (λ x y. x ≢ y) pairs
+-- each of the pairs is neither open nor among those before it
+abbrev pub AreUnopened : List (ℕ × ℕ) → List (ℕ × ℕ) → Type 0
+AreUnopened opened [] = Unit {0}
+AreUnopened opened (x ∷ pairs) = (has_pair opened x ≡ false) × AreUnopened (opened ++ x ∷ []) pairs
 
 -- the child has a pair that is open
-abbrev pub HasOpenPair : List (Pair × List ℕ) → Child → Type 0
-HasOpenPair tables c = IsOpen tables (record { g = c.g; r = c.r })
+abbrev pub HasOpenPair : NoveltyTables → Child → Type 0
+HasOpenPair tables c = IsOpen tables (c.g, c.r)
 
 -- ---- events
 -- what is told of a newborn, and of the expansion of a kept node

@@ -1,16 +1,14 @@
 -- What the search keeps, and the moments of the definition that it stands for: the kept nodes in a table by state, the
--- waiting ones in an open list, and of the others the words of the novelty tables alone.
-use Rattle.std.specs.Prelude.{◌≡◌, ◌↔◌, ◌+◌, ◌*◌, ◌≤◌, ℕ, Bool, true, false, List, [], ◌∷◌, length, map, filter, slice_set, Option, Some, MatchOption, Contains}
+-- waiting ones in an open list, and of the others their marks in the novelty tables alone.
+use Rattle.std.specs.Prelude.{◌≡◌, ◌↔◌, ℕ, Bool, true, false, List, [], ◌∷◌, length, map, filter, slice_set, Some, Contains}
 use Rattle.std.specs.Bool.{MatchBool}
 use Rattle.std.specs.List.{sum_by}
-use Rattle.std.specs.Map.{keys_of}
 use Rattle.wp_task.specs.Task.{PlanningTask}
 use Rattle.wp_task.specs.Novelty.{Generated}
 use Rattle.wp_count.specs.declared.brood.Child.{Child}
 use Rattle.wp_count.specs.Broods.{children_of}
 use Rattle.wp_count.specs.Laws.{IsMarked}
-use Rattle.wp_watch.specs.declared.event.Event.{Event}
-use Rattle.wp_novel.specs.NoveltyTables.{NoveltyTables}
+use Rattle.wp_novel.specs.NoveltyTables.{NoveltyTables, open_pairs, IsAtHome}
 use Rattle.wp_novel.specs.StandsFor.{StandsFor}
 use Rattle.wp_queue.specs.declared.queue.Waiting.{Waiting}
 use Rattle.wp_queue.specs.OpenList.{waiting}
@@ -26,7 +24,7 @@ use Rattle.wp_plain.specs.Explored.{track_at}
 use Rattle.wp_plain.specs.Steps.{Asked}
 use Rattle.wp_plain.specs.Numbers.{IsNumbered}
 use Rattle.wp_commit.specs.declared.searched.Searched.{Searched}
-use Rattle.wp_commit.specs.Newborns.{birth_of, counters_of}
+use Rattle.wp_commit.specs.Phases.{Calls, WorksAll}
 
 -- ---- kept nodes
 -- a kept node as it was generated
@@ -71,12 +69,13 @@ pub record AreWaiting (queue : List Waiting) (nodes : List Node) : Type 0 where
   pub kept : (node : Node) → Contains nodes node → node.waits ≡ true → node.kept ≡ true
 
 -- ---- novelty tables
--- the tables have the tuples of the task, and stand for all numbered nodes; a pair is open where some node has it
+-- the tables have the tuples of the task, and stand for all numbered nodes; a pair is open where some node has it, and no job is out
 pub record AreTables (task : PlanningTask) (settings : Settings) (tables : NoveltyTables) (nodes : List Node) : Type 0 where
   pub index : tables.index ≡ record { atoms = task.atoms; width = settings.width }
   pub limit : tables.limit ≡ settings.words
-  pub births : StandsFor tables (map birth_of (generated_in nodes))
-  pub pairs : map counters_of (keys_of tables.tables) ≡ pairs_in (generated_in nodes)
+  pub births : StandsFor tables (generated_in nodes)
+  pub pairs : open_pairs tables ≡ pairs_in (generated_in nodes)
+  pub home : IsAtHome tables
 
 -- ---- counts
 pub record AreCounted (s : Searched) (m : Moment) : Type 0 where
@@ -111,10 +110,11 @@ pub record IsTakenAt (task : PlanningTask) (settings : Settings) (s : Searched) 
   pub named : node.generated.number ≡ number
 
 -- ---- what a call may ask
--- what a run needs throughout was made for what is asked, and all tuples are counted
-pub record IsRunOf (run asked : Asked) : Type 0 where
+-- what a run needs throughout was made for what is asked, all tuples are counted, and the jobs of a phase are all worked
+pub record IsRunOf {W : Type 0} (calls : Calls W) (work : W) (run asked : Asked) : Type 0 where
   pub same : run ≡ asked
   pub all : run.tuples ≡ all_tuples run.task run.settings
+  pub works : WorksAll calls work
 
 abbrev pub HoldsAtSome : PlanningTask → Settings → Searched → NoveltyTables → Type 0
 HoldsAtSome task settings s tables = (m : Moment) × HoldsAt task settings s tables m
@@ -130,5 +130,5 @@ AreCountsOf task settings s tables counts = (m : Moment) → HoldsAt task settin
 -- no pair, where the root's own pair wants more words than the limit; else they stand for all numbered nodes of the run
 abbrev pub LeavesTables : PlanningTask → Settings → NoveltyTables → Type 0
 LeavesTables task settings tables = MatchBool (exceeds settings.words 1 (tuple_count settings.width task.atoms))
-    (tables.tables ≡ [])
+    (open_pairs tables ≡ [])
     (AreTables task settings tables (run task settings (all_tuples task settings)).1.nodes)

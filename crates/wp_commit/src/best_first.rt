@@ -1,7 +1,9 @@
 //! The search: the driver of wp_plain over the fast store.
-ghost use Rattle.std.specs.Prelude.{◌≡◌, [], ℕ, List, Option, None, IfOk, OnOk};
+ghost use Rattle.std.specs.Prelude.{◌≡◌, [], ℕ, List, false, map, All, Option, None, IfOk, OnOk};
 ghost use Rattle.wp_watch.specs.declared.watch.WatchKind.{WatchKind};
 ghost use Rattle.wp_watch.specs.Places.{AreAfter, AreUntold};
+ghost use Rattle.wp_novel.specs.NoveltyTables.{open_pairs, IsAtHome};
+ghost use Rattle.wp_novel.specs.Jobs.{worked_job, IsJobOf};
 ghost use Rattle.wp_plain.specs.Places.{places_in};
 ghost use Rattle.wp_plain.specs.Ranges.{AreInRange};
 ghost use Rattle.wp_plain.specs.Laws.{AnswersFor};
@@ -9,13 +11,14 @@ ghost use Rattle.wp_plain.specs.Pairs.{all_tuples};
 ghost use Rattle.wp_plain.specs.Run.{run, ending_of};
 ghost use Rattle.wp_commit.specs.Searched.{LeavesTables};
 
+use crate::marking::work_all;
 use crate::root::opening;
 use crate::run::Run;
 use std::alloc::{AllocError, Global};
 use std::mem;
 use std::thread::Threads;
 use wp_edge::Gate;
-use wp_novel::Tables;
+use wp_novel::{MarkJobs, Tables};
 use wp_plain::{Ending, Settings, endings_answer, exceeds, root_alone, search_from, tuple_count};
 use wp_task::Task;
 use wp_tuples::TupleIndex;
@@ -44,7 +47,8 @@ pub fn search<R: Threads + Sync, G: Gate>(
     search_in(rt, alloc, task, &mut tables, settings, gate, watchers)
 }
 
-/// The same over tables of the caller, which are empty. Where memory is refused they are spent, as the watchers are.
+/// The same over tables of the caller, which are empty, and no job of which is out. Where memory is refused they are spent, as the
+/// watchers are.
 pub fn search_in<R: Threads + Sync, G: Gate>(
     rt: &R,
     alloc: Global,
@@ -57,12 +61,14 @@ pub fn search_in<R: Threads + Sync, G: Gate>(
     requires range { AreInRange settings.now }
     requires index { tables.old.index ≡ record { atoms = task.now.atoms; width = settings.now.width } }
     requires limit { tables.old.limit ≡ settings.now.words }
-    requires empty { tables.old.tables ≡ [] }
+    requires empty { open_pairs tables.old ≡ [] }
     requires collected { tables.old.last ≡ None }
+    requires home { IsAtHome tables.old }
     requires untold { AreUntold (places_in kind until told watchers.old) }
     ensures ending { IfOk result (λ ending. ending ≡ ending_of task.now settings.now (all_tuples task.now settings.now)) }
     ensures answers { IfOk result (AnswersFor task.now settings.now (all_tuples task.now settings.now)) }
     ensures tables { OnOk result (LeavesTables task.now settings.now tables.new) }
+    ensures home { OnOk result (IsAtHome tables.new) }
     ensures events { OnOk result ((list : List (WatchKind × Option ℕ)) →
         AreAfter list [] (places_in kind until told watchers.old) →
         AreAfter list (run task.now settings.now (all_tuples task.now settings.now)).1.events (places_in kind until told watchers.new)) }
@@ -74,11 +80,16 @@ pub fn search_in<R: Threads + Sync, G: Gate>(
         return Ok(root_alone());
     }
     let asked = wp_plain::Run::of(alloc, task, *settings, tuples);
-    let own = Run::of(rt, gate, alloc, task, *settings)?;
+    let own = Run::of(alloc, task, *settings)?;
     // The store has the tables while it is searched.
     let index = TupleIndex::new(task.atoms(), settings.width);
     let empty = mem::replace(tables, Tables::new(alloc, index, settings.words));
-    let mut store = opening(own, empty)?;
+    // The jobs are worked from here on, where the bounds of the threads and of the gate are known of every thread.
+    let work = |whole: &Tables, jobs: MarkJobs| -> MarkJobs
+        requires { All (IsJobOf whole.now false) jobs }
+        ensures { result ≡ map (worked_job whole.now.index) jobs }
+    { work_all(rt, whole, gate, jobs) };
+    let mut store = opening(own, work, empty)?;
     let ending = search_from(&asked, &mut store, watchers)?;
     *tables = store.tables;
     Ok(ending)

@@ -1,24 +1,24 @@
 //! The numbers and novelties of the children of an expansion.
 ghost use Rattle.std.specs.Prelude.{◌≡◌, ◌+◌, ◌<◌, ◌^◌, ◌++◌, List, false, length, map, All, Contains, IfOk, OnOk, IfSome};
-ghost use Rattle.std.specs.Map.{keys_of};
 ghost use Rattle.wp_task.specs.Novelty.{Generated, novelty_of};
-ghost use Rattle.wp_novel.specs.Births.{Birth};
-ghost use Rattle.wp_novel.specs.NoveltyTables.{IsOpen};
-ghost use Rattle.wp_novel.specs.StandsFor.{generated_of, StandsFor};
+ghost use Rattle.wp_novel.specs.NoveltyTables.{open_pairs, IsAtHome, IsOpen};
+ghost use Rattle.wp_novel.specs.StandsFor.{StandsFor};
 ghost use Rattle.wp_plain.specs.Explored.{numbered, all_numbered};
 ghost use Rattle.wp_plain.specs.Pairs.{exceeds, tuple_count};
-ghost use Rattle.wp_commit.specs.Newborns.{birth_of, rest_of, child_with, newborns_of, HasOpenPair};
+ghost use Rattle.wp_commit.specs.Newborns.{rest_of, child_with, newborns_of, HasOpenPair};
 ghost use Rattle.wp_commit.specs.Expansions.{IsExpansionOf, IsEnteredOf};
 ghost use Rattle.wp_commit.specs.Searched.{IsTakenAtSome};
+ghost use Rattle.wp_commit.specs.Phases.{WorksAll};
 
 use crate::evaluation::Expansion;
+use crate::marking::mark_all;
 use crate::newborn::Newborn;
 use crate::pairs::open_all;
 use crate::run::Run;
 use crate::searched::{Searched, node_at};
 use std::alloc::{AllocError, Global};
 use wp_count::{Child, counters_are_carried};
-use wp_novel::{Birth, Births, Pair, Tables};
+use wp_novel::{Birth, Births, MarkJobs, Pair, Tables};
 use wp_plain::{children_are_numbered, nodes_are_numbered};
 use wp_task::{State, Track};
 
@@ -38,19 +38,21 @@ pub(crate) struct Rest {
     pub fresh: Option<Track>,
 }
 
-/// Opens the pairs of an expansion, which are within the limit of words, numbers its children, enters them into the tables, and
+/// Opens the pairs of an expansion, which are within the limit of words, numbers its children, marks them in the tables, and
 /// reads their novelties. Where memory is refused the tables are spent.
-pub(crate) fn enter<R, G>(
-    run: &Run<R, G>,
+pub(crate) fn enter<W: Fn(&Tables, MarkJobs) -> MarkJobs>(
+    run: &Run,
+    work: &W,
     searched: &Searched,
     tables: &mut Tables,
     number: u64,
     expansion: Expansion,
 ) -> Result<Numbered, AllocError>
+    requires works { WorksAll W.Fn work.now }
     requires taken { IsTakenAtSome run.now.task run.now.settings searched.now tables.old number }
     requires evaluated { IsExpansionOf run.now.task searched.now tables.old number expansion }
     requires numbers { searched.now.numbered + length expansion.fresh.items < 2 ^ 63 }
-    requires few { exceeds run.now.settings.words (length tables.old.tables + length expansion.pairs.items) (tuple_count run.now.settings.width run.now.task.atoms) ≡ false }
+    requires few { exceeds run.now.settings.words (length (open_pairs tables.old) + length expansion.pairs.items) (tuple_count run.now.settings.width run.now.task.atoms) ≡ false }
     ensures { IfOk result (IsEnteredOf run.now.task run.now.settings searched.now tables.old number expansion tables.new) }
 {
     counters_are_carried();
@@ -62,33 +64,37 @@ pub(crate) fn enter<R, G>(
         pairs,
     } = expansion;
     open_all(tables, pairs)?;
-    let newborns = number_all(run.alloc, tables, searched.numbered, fresh)?;
+    let newborns = number_all(run, work, tables, searched.numbered, fresh)?;
     Ok(Numbered { newborns, repeats })
 }
 
-/// Numbers the children from `first` on, enters them into the tables, and reads their novelties: each child is entered before
-/// the first of them is asked for, since a later one makes no tuple old for it. Where memory is refused the tables are spent.
-fn number_all(
-    alloc: Global,
+/// Numbers the children from `first` on, marks them in the tables, and reads their novelties: all are marked before the first of them
+/// is asked for, since a later one makes no tuple old for it. Where memory is refused the tables are spent.
+fn number_all<W: Fn(&Tables, MarkJobs) -> MarkJobs>(
+    run: &Run,
+    work: &W,
     tables: &mut Tables,
     first: u64,
     children: Vec<Child>,
 ) -> Result<Vec<Newborn>, AllocError>
-    requires open { All (HasOpenPair tables.old.tables) children.items }
+    requires works { WorksAll W.Fn work.now }
+    requires home { IsAtHome tables.old }
+    requires open { All (HasOpenPair tables.old) children.items }
     requires sizes { All (λ c. length c.state ≡ tables.old.index.atoms) children.items }
     requires numbers { first + length children.items < 2 ^ 63 }
     requires later { IfSome tables.old.last (λ last. last < first) }
-    ensures newborns { IfOk result (λ newborns. (nodes : List Generated) → StandsFor tables.old (map birth_of nodes) →
+    ensures newborns { IfOk result (λ newborns. (nodes : List Generated) → StandsFor tables.old nodes →
         newborns.items ≡ newborns_of tables.old.index.width (nodes ++ all_numbered first children.items) first children.items) }
-    ensures stands { OnOk result ((nodes : List Generated) → StandsFor tables.old (map birth_of nodes) →
-        StandsFor tables.new (map birth_of (nodes ++ all_numbered first children.items))) }
-    ensures keys { keys_of tables.new.tables ≡ keys_of tables.old.tables }
-    ensures index { tables.new.index ≡ tables.old.index }
-    ensures limit { tables.new.limit ≡ tables.old.limit }
+    ensures stands { OnOk result ((nodes : List Generated) → StandsFor tables.old nodes →
+        StandsFor tables.new (nodes ++ all_numbered first children.items)) }
+    ensures home { OnOk result (IsAtHome tables.new) }
+    ensures pairs { OnOk result (open_pairs tables.new ≡ open_pairs tables.old) }
+    ensures index { OnOk result (tables.new.index ≡ tables.old.index) }
+    ensures limit { OnOk result (tables.new.limit ≡ tables.old.limit) }
 {
-    let (births, rests) = births_of(alloc, first, children)?;
-    let births = tables.enter(births);
-    newborns_of(alloc, tables, births.into_vec(), rests, first)
+    let (births, rests) = births_of(run.alloc, first, children)?;
+    let births = mark_all(run, work, tables, births)?;
+    newborns_of(run.alloc, tables, births.into_vec(), rests, first)
 }
 
 /// The children as births, which have their states, and what else they have.
@@ -98,7 +104,7 @@ fn births_of(
     children: Vec<Child>,
 ) -> Result<(Births, Vec<Rest>), AllocError>
     requires { first + length children.items < 2 ^ 63 }
-    ensures births { IfOk result (λ parts. parts.0 ≡ map birth_of (all_numbered first children.items)) }
+    ensures births { IfOk result (λ parts. parts.0 ≡ all_numbered first children.items) }
     ensures rests { IfOk result (λ parts. parts.1.items ≡ map rest_of children.items) }
 {
     let count = children.len();
@@ -115,7 +121,7 @@ fn births_of(
 
 /// A child as a birth, and what else it has.
 fn birth_of(alloc: Global, number: u64, child: Child) -> Result<(Birth, Rest), AllocError>
-    ensures birth { IfOk result (λ parts. parts.0 ≡ birth_of (numbered number child)) }
+    ensures birth { IfOk result (λ parts. parts.0 ≡ numbered number child) }
     ensures rest { IfOk result (λ parts. parts.1 ≡ rest_of child) }
 {
     let Child {
@@ -130,7 +136,7 @@ fn birth_of(alloc: Global, number: u64, child: Child) -> Result<(Birth, Rest), A
     Ok((birth, Rest { act, got, fresh }))
 }
 
-/// The children with their numbers and novelties, once they are entered as these births.
+/// The children with their numbers and novelties, once they are marked as these births.
 fn newborns_of(
     alloc: Global,
     tables: &mut Tables,
@@ -139,11 +145,12 @@ fn newborns_of(
     first: u64,
 ) -> Result<Vec<Newborn>, AllocError>
     requires parts { length rests.items ≡ length births.items }
-    requires open { All (λ b. IsOpen tables.old.tables b.pair) births.items }
+    requires home { IsAtHome tables.old }
+    requires open { All (λ b. IsOpen tables.old b.counters) births.items }
     requires sizes { All (λ b. length b.state ≡ tables.old.index.atoms) births.items }
     ensures newborns { IfOk result (λ newborns. (nodes : List Generated) (children : List Child) →
-        births.items ≡ map birth_of (all_numbered first children) → rests.items ≡ map rest_of children →
-        StandsFor tables.old (map birth_of (nodes ++ all_numbered first children)) →
+        births.items ≡ all_numbered first children → rests.items ≡ map rest_of children →
+        StandsFor tables.old (nodes ++ all_numbered first children) →
         newborns.items ≡ newborns_of tables.old.index.width (nodes ++ all_numbered first children) first children) }
     ensures same { tables.new ≡ tables.old }
 {
@@ -161,11 +168,12 @@ fn newborns_of(
 
 /// The child of a birth, with its number and novelty.
 fn newborn_of(tables: &mut Tables, birth: Birth, rest: Rest) -> Newborn
-    requires pair { IsOpen tables.old.tables birth.pair }
+    requires home { IsAtHome tables.old }
+    requires pair { IsOpen tables.old birth.counters }
     requires size { length birth.state ≡ tables.old.index.atoms }
     ensures number { result.number ≡ birth.number }
-    ensures novelty { (births : List Birth) → StandsFor tables.old births → Contains births birth →
-        result.w ≡ novelty_of tables.old.index.width (map generated_of births) (generated_of birth) }
+    ensures novelty { (births : List Generated) → StandsFor tables.old births → Contains births birth →
+        result.w ≡ novelty_of tables.old.index.width births birth }
     ensures child { result.child ≡ child_with birth rest }
     ensures same { tables.new ≡ tables.old }
 {

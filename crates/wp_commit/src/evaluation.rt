@@ -26,8 +26,8 @@ pub(crate) struct Expansion {
 }
 
 /// Evaluates the expansion of the node that was taken.
-pub(crate) fn expansion_of<R, G>(
-    run: &mut Run<R, G>,
+pub(crate) fn expansion_of(
+    run: &mut Run,
     searched: &Searched,
     tables: &Tables,
     number: u64,

@@ -11,6 +11,7 @@ pub mod best_first;
 mod births;
 mod evaluation;
 mod keep;
+mod marking;
 mod newborn;
 mod pairs;
 mod root;

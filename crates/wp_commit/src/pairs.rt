@@ -1,13 +1,12 @@
-//! The pairs of counters of an expansion that have no words yet.
-ghost use Rattle.std.specs.Prelude.{◌≡◌, ◌+◌, ◌*◌, ◌≤◌, [], ◌∷◌, ◌++◌, List, None, length, map, fold, IfOk, OnOk};
-ghost use Rattle.std.specs.Map.{keys_of};
+//! The pairs of counters of an expansion that are not open yet.
+ghost use Rattle.std.specs.Prelude.{◌≡◌, ◌+◌, ◌*◌, ◌≤◌, [], ◌∷◌, ◌++◌, List, false, length, map, fold, IfOk, OnOk};
+ghost use Rattle.wp_task.specs.Novelty.{Generated};
 ghost use Rattle.wp_tuples.specs.TuplePlaces.{tuples_of};
-ghost use Rattle.wp_novel.specs.Births.{Birth};
-ghost use Rattle.wp_novel.specs.NoveltyTables.{words_of};
+ghost use Rattle.wp_novel.specs.NoveltyTables.{counters_of, open_pairs, is_open, IsAtHome};
 ghost use Rattle.wp_novel.specs.StandsFor.{StandsFor};
 ghost use Rattle.wp_plain.specs.Pairs.{with_pair};
 ghost use Rattle.wp_plain.specs.Explored.{child_pair};
-ghost use Rattle.wp_commit.specs.Newborns.{counters_of, AreUnopened};
+ghost use Rattle.wp_commit.specs.Newborns.{AreUnopened};
 
 use indexmap::IndexSet;
 use std::alloc::{AllocError, Global};
@@ -20,8 +19,8 @@ pub(crate) fn new_pairs(
     tables: &Tables,
     children: &[Child],
 ) -> Result<Vec<Pair>, AllocError>
-    ensures pairs { IfOk result (λ pairs. map counters_of (keys_of tables.now.tables ++ pairs.items) ≡ fold with_pair (map counters_of (keys_of tables.now.tables)) (map child_pair children.now)) }
-    ensures unopened { IfOk result (λ pairs. AreUnopened tables.now.tables pairs.items) }
+    ensures pairs { IfOk result (λ pairs. open_pairs tables.now ++ map counters_of pairs.items ≡ fold with_pair (open_pairs tables.now) (map child_pair children.now)) }
+    ensures unopened { IfOk result (λ pairs. AreUnopened (open_pairs tables.now) (map counters_of pairs.items)) }
 {
     let mut pairs = IndexSet::new(alloc);
     for child in children {
@@ -38,9 +37,9 @@ pub(crate) fn new_pairs(
 }
 
 fn add_pair(tables: &Tables, pairs: &mut IndexSet<Pair>, pair: Pair) -> Result<(), AllocError>
-    requires { AreUnopened tables.now.tables pairs.old.keys }
-    ensures pairs { OnOk result (map counters_of (keys_of tables.now.tables ++ pairs.new.keys) ≡ with_pair (map counters_of (keys_of tables.now.tables ++ pairs.old.keys)) (counters_of pair)) }
-    ensures unopened { OnOk result (AreUnopened tables.now.tables pairs.new.keys) }
+    requires { AreUnopened (open_pairs tables.now) (map counters_of pairs.old.keys) }
+    ensures pairs { OnOk result (open_pairs tables.now ++ map counters_of pairs.new.keys ≡ with_pair (open_pairs tables.now ++ map counters_of pairs.old.keys) (counters_of pair)) }
+    ensures unopened { OnOk result (AreUnopened (open_pairs tables.now) (map counters_of pairs.new.keys)) }
 {
     if !tables.has(pair) {
         pairs.insert(pair)?;
@@ -50,13 +49,15 @@ fn add_pair(tables: &Tables, pairs: &mut IndexSet<Pair>, pair: Pair) -> Result<(
 
 /// Opens the pairs, which are within the limit of words. Where memory is refused some of them are open.
 pub(crate) fn open_all(tables: &mut Tables, pairs: Vec<Pair>) -> Result<(), AllocError>
-    requires unopened { AreUnopened tables.old.tables pairs.items }
-    requires within { (length tables.old.tables + length pairs.items) * length (tuples_of tables.old.index) ≤ tables.old.limit }
-    ensures keys { OnOk result (keys_of tables.new.tables ≡ keys_of tables.old.tables ++ pairs.items) }
+    requires unopened { AreUnopened (open_pairs tables.old) (map counters_of pairs.items) }
+    requires within { (length (open_pairs tables.old) + length pairs.items) * length (tuples_of tables.old.index) ≤ tables.old.limit }
+    requires home { IsAtHome tables.old }
+    ensures pairs { OnOk result (open_pairs tables.new ≡ open_pairs tables.old ++ map counters_of pairs.items) }
+    ensures home { OnOk result (IsAtHome tables.new) }
     ensures index { OnOk result (tables.new.index ≡ tables.old.index) }
     ensures limit { OnOk result (tables.new.limit ≡ tables.old.limit) }
     ensures last { OnOk result (tables.new.last ≡ tables.old.last) }
-    ensures stands { OnOk result ((births : List Birth) → StandsFor tables.old births → StandsFor tables.new births) }
+    ensures stands { OnOk result ((births : List Generated) → StandsFor tables.old births → StandsFor tables.new births) }
 {
     for pair in pairs {
         open(tables, pair)?;
@@ -66,13 +67,15 @@ pub(crate) fn open_all(tables: &mut Tables, pairs: Vec<Pair>) -> Result<(), Allo
 
 /// Opens a pair that has room within the limit of words.
 pub(crate) fn open(tables: &mut Tables, pair: Pair) -> Result<(), AllocError>
-    requires unopened { words_of tables.old.tables pair ≡ None }
-    requires within { (length tables.old.tables + 1) * length (tuples_of tables.old.index) ≤ tables.old.limit }
-    ensures keys { OnOk result (keys_of tables.new.tables ≡ keys_of tables.old.tables ++ pair ∷ []) }
+    requires unopened { is_open tables.old (counters_of pair) ≡ false }
+    requires within { (length (open_pairs tables.old) + 1) * length (tuples_of tables.old.index) ≤ tables.old.limit }
+    requires home { IsAtHome tables.old }
+    ensures pairs { OnOk result (open_pairs tables.new ≡ open_pairs tables.old ++ counters_of pair ∷ []) }
+    ensures home { OnOk result (IsAtHome tables.new) }
     ensures index { OnOk result (tables.new.index ≡ tables.old.index) }
     ensures limit { OnOk result (tables.new.limit ≡ tables.old.limit) }
     ensures last { OnOk result (tables.new.last ≡ tables.old.last) }
-    ensures stands { OnOk result ((births : List Birth) → StandsFor tables.old births → StandsFor tables.new births) }
+    ensures stands { OnOk result ((births : List Generated) → StandsFor tables.old births → StandsFor tables.new births) }
 {
     match tables.open_pair(pair) {
         Ok(()) => Ok(()),

@@ -5,19 +5,15 @@ ghost use Rattle.wp_plain.specs.Ranges.{AreInRange};
 
 use std::alloc::{AllocError, Global};
 use std::marker::Model;
-use std::thread::Threads;
-use wp_edge::Gate;
 use wp_plain::Settings;
 use wp_relax::Workspace;
 use wp_succ::Tree;
 use wp_task::Task;
 
-/// What a run needs throughout, made once: the threads that its jobs may be run by and the gate that they pass, memory, and what
-/// it was asked for. Callers see the task, the settings, which are in range, and the number of all tuples.
+/// What a run needs throughout, made once: memory, what it was asked for, and what is made of its task. Callers see the task, the
+/// settings, which are in range, and the number of all tuples.
 #[derive(Drop)]
-pub(crate) struct Run<'a, R, G> {
-    pub rt: &'a R,
-    pub gate: &'a G,
+pub(crate) struct Run<'a> {
     pub alloc: Global,
     pub task: &'a Task,
     pub settings: Settings,
@@ -25,7 +21,7 @@ pub(crate) struct Run<'a, R, G> {
     pub work: Workspace,
 }
 
-impl<'a, R, G> Model for Run<'a, R, G> {
+impl<'a> Model for Run<'a> {
     ghost use Rattle.std.specs.Prelude.{◌≡◌, IsTrue};
     ghost use Rattle.wp_succ.specs.Serving.{are_preconditions_of};
     ghost use Rattle.wp_relax.specs.Workspace.{room_for};
@@ -40,22 +36,18 @@ impl<'a, R, G> Model for Run<'a, R, G> {
     ghost invariant = { λ r. AreInRange r.settings × (r.work ≡ room_for r.task.now) × IsTrue (are_preconditions_of r.succ r.task.now) };
 }
 
-impl<'a, R: Threads + Sync, G: Gate> Run<'a, R, G> {
+impl<'a> Run<'a> {
     pub(crate) fn of(
-        rt: &'a R,
-        gate: &'a G,
         alloc: Global,
         task: &'a Task,
         settings: Settings,
-    ) -> Result<Run<'a, R, G>, AllocError>
+    ) -> Result<Run<'a>, AllocError>
         requires { AreInRange settings }
         ensures { IfOk result (λ run. run ≡ record { task = task.now; settings = settings; tuples = all_tuples task.now settings }) }
     {
         let succ = Tree::of(alloc, task)?;
         let work = Workspace::of(alloc, task)?;
         Ok(Run {
-            rt,
-            gate,
             alloc,
             task,
             settings,

@@ -21,8 +21,8 @@ pub(crate) struct Searched {
 }
 
 /// The node that was taken.
-pub(crate) fn node_at<'a, R, G>(
-    run: &Run<R, G>,
+pub(crate) fn node_at<'a>(
+    run: &Run,
     searched: &'a Searched,
     tables: &Tables,
     number: u64,
@@ -41,7 +41,7 @@ pub(crate) fn node_at<'a, R, G>(
 }
 
 /// What was counted.
-pub(crate) fn counts_of<R, G>(run: &Run<R, G>, searched: &Searched, tables: &Tables) -> Counts
+pub(crate) fn counts_of(run: &Run, searched: &Searched, tables: &Tables) -> Counts
     requires { HoldsAtSome run.now.task run.now.settings searched.now tables.now }
     ensures { AreCountsOf run.now.task run.now.settings searched.now tables.now result }
 {

@@ -7,36 +7,35 @@ use crate::run::Run;
 use crate::searched::{Searched, counts_of, node_at};
 use crate::telling::told_of;
 use std::alloc::{AllocError, Global};
-use std::thread::Threads;
 use wp_count::counters_are_carried;
-use wp_edge::Gate;
-use wp_novel::Tables;
+use wp_novel::{MarkJobs, Tables};
 use wp_plain::{BestFirst, Counts, children_are_numbered, first_is_least, nodes_are_numbered};
 use wp_task::Atoms;
 use wp_watch::Event;
 
-/// What a run needs throughout, and what the search keeps.
+/// What a run needs throughout, what works the jobs of a phase, and what the search keeps.
 #[derive(Drop)]
-pub(crate) struct Store<'a, R, G> {
-    pub run: Run<'a, R, G>,
+pub(crate) struct Store<'a, W> {
+    pub run: Run<'a>,
+    pub work: W,
     pub searched: Searched,
     pub tables: Tables,
 }
 
-impl<'a, R: Threads + Sync, G: Gate> BestFirst for Store<'a, R, G> {
+impl<'a, W: Fn(&Tables, MarkJobs) -> MarkJobs> BestFirst for Store<'a, W> {
     ghost use Rattle.wp_commit.specs.Searched.{HoldsAt, StandsAt, IsTakenAt, IsRunOf};
     ghost use Rattle.wp_commit.specs.Expansions.{IsExpansionOf};
 
     type Expansion = Expansion;
 
-    ghost stands = { λ s asked m. IsRunOf s.run asked × StandsAt s.run.task s.run.settings s.searched s.tables m };
+    ghost stands = { λ s asked m. IsRunOf W.Fn s.work s.run asked × StandsAt s.run.task s.run.settings s.searched s.tables m };
 
-    ghost holds = { λ s asked m. IsRunOf s.run asked × HoldsAt s.run.task s.run.settings s.searched s.tables m };
+    ghost holds = { λ s asked m. IsRunOf W.Fn s.work s.run asked × HoldsAt s.run.task s.run.settings s.searched s.tables m };
 
-    ghost has_taken = { λ s asked m node number. IsRunOf s.run asked
+    ghost has_taken = { λ s asked m node number. IsRunOf W.Fn s.work s.run asked
         × IsTakenAt s.run.task s.run.settings s.searched s.tables m node number };
 
-    ghost has_evaluated = { λ s asked m node number x. IsRunOf s.run asked
+    ghost has_evaluated = { λ s asked m node number x. IsRunOf W.Fn s.work s.run asked
         × IsTakenAt s.run.task s.run.settings s.searched s.tables m node number
         × IsExpansionOf s.run.task s.searched s.tables number x };
 
@@ -96,6 +95,7 @@ impl<'a, R: Threads + Sync, G: Gate> BestFirst for Store<'a, R, G> {
         let node = node_at(&self.run, &self.searched, &self.tables, number);
         let numbered = enter(
             &self.run,
+            &self.work,
             &self.searched,
             &mut self.tables,
             number,

@@ -11,8 +11,8 @@ use wp_plain::{Settings, keeps};
 use wp_watch::{Born, Borns, Event};
 
 /// What is told of the expansion of a node, with its newborns, where that is wanted.
-pub(crate) fn told_of<R, G>(
-    run: &Run<R, G>,
+pub(crate) fn told_of(
+    run: &Run,
     node: &Kept,
     numbered: &Numbered,
     wanted: bool,

@@ -66,9 +66,28 @@ fn children_of(
     ensures { IfOk result (λ children. children ≡ map (λ a. child_of task.now mark.now track.now a (result_of (act_at task.now.acts a) state.now)) acts.now) }
 {
     let mut work = Workspace::of(alloc, task)?;
+    children_in(alloc, task, &mut work, state, mark, track, acts)
+}
+
+/// The same, made in a workspace that serves the task.
+fn children_in(
+    alloc: Global,
+    task: &Task,
+    work: &mut Workspace,
+    state: &State,
+    mark: &Mark,
+    track: &Track,
+    acts: &Atoms,
+) -> Result<Children, AllocError>
+    requires serves { work.old ≡ room_for task.now }
+    requires size { length state.now ≡ task.now.atoms }
+    requires marked { IsMarkOf task.now state.now mark.now track.now }
+    requires numbers { All (λ a. a < length task.now.acts) acts.now }
+    ensures { IfOk result (λ children. children ≡ map (λ a. child_of task.now mark.now track.now a (result_of (act_at task.now.acts a) state.now)) acts.now) }
+{
     let mut children = Vec::with_capacity(alloc, acts.as_slice().len())?;
     for a in acts.as_slice() {
-        let child = child_of(alloc, task, &mut work, state, mark, track, *a)?;
+        let child = child_of(alloc, task, work, state, mark, track, *a)?;
         children.push(child)?;
     }
     Ok(Children::of_vec(children))

@@ -14,7 +14,7 @@ use Rattle.wp_syntax.specs.declared.records.Problem.{Problem}
 use Rattle.wp_syntax.specs.declared.problem.Entries.{Entries}
 use Rattle.wp_syntax.specs.declared.typing.Role.TheVariants as roles
 use Rattle.wp_syntax.specs.Reading.{Read, fine, each, ◌>>=◌, ◌>>◌}
-use Rattle.wp_syntax.specs.Grammar.{name_at, goal_of as goal_read, goals_of}
+use Rattle.wp_syntax.specs.Grammar.{name_at, goal_of as goal_read, conjuncts_of, plain_goal_of}
 use Rattle.wp_syntax.specs.Effects.{fact_of}
 use Rattle.wp_syntax.specs.Typing.{typed_of, with_kinds}
 use Rattle.wp_syntax.specs.Problems.{entry_of, entries_of, complete_of, problem_from, problem_of}
@@ -98,7 +98,7 @@ AreFacts known forms = (at : ℕ) → (items : List InitItem) × (each fact_of (
 
 abbrev AreGoals : (List ℕ → Type 0) → Forms → Type 0
 AreGoals known forms =
-    (at : ℕ) → (atoms : List AtomText) × (goals_of (trees_at forms at) ≡ fine atoms) × AllByRecursion (IsDepotAtom known) atoms
+    (at : ℕ) → (atoms : List AtomText) × (conjuncts_of plain_goal_of (trees_at forms at) ≡ fine atoms) × AllByRecursion (IsDepotAtom known) atoms
 
 abbrev fact : AtomText → InitItem
 fact atom = record { stated = true; atom = atom }
@@ -214,7 +214,7 @@ entry_then before after tree rest e = ap (λ (read : Read Entries). read >>= λ 
 
 -- the items behind the domain's name, at any places
 entries : (a b c d e f g h : ℕ) (o i l : Trees) (objects : List Typed) (init : List InitItem) (goal : List AtomText)
-    → typed_of roles.Names [] [] o ≡ fine objects → each fact_of i ≡ fine init → goals_of l ≡ fine goal
+    → typed_of roles.Names [] [] o ≡ fine objects → each fact_of i ≡ fine init → conjuncts_of plain_goal_of l ≡ fine goal
     → entries_of titled
     (Then (Branch a (Then (Leaf (codes ":objects") b) o))
     (Then (Branch c (Then (Leaf (codes ":init") d) i))

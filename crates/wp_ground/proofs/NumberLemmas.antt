@@ -14,6 +14,7 @@ use Rattle.std.proofs.lemmas.List.{take_more, get_or-replicate}
 use Rattle.std.proofs.lemmas.List.Elements.{filter_map-append}
 use Rattle.std.proofs.lemmas.List.Filters.{dedup_is}
 use Rattle.std.proofs.lemmas.List.FromFn.{get_or-map-range_with_len}
+use Rattle.std.proofs.lemmas.Iterator.Adapters.{position_from-zero}
 use Rattle.std.proofs.lemmas.List.Quantifiers.{position-Some}
 use Rattle.std.proofs.lemmas.List.Kept.{IsStrictlySortedBy-dedup, Contains-dedup, Contains-dedup_nat, Contains-from_dedup}
 use Rattle.std.proofs.lemmas.List.Sorted.{Contains-permutation, IsPermutation-sym}
@@ -23,7 +24,6 @@ use Rattle.wp_lift.specs.Problem.{Lifting, pred_at, tuples_of}
 use Rattle.wp_lift.specs.Worlds.{is_same_atom, among}
 use Rattle.wp_lift.specs.Formed.{IsAtom}
 use Rattle.wp_lift.proofs.SameLemmas.{same-atom}
-use Rattle.wp_lift.proofs.PlaceLemmas.{from-zero}
 use Rattle.wp_ground.specs.Tasks.{changes, atoms_with, atoms_of, atom_at, numbers_of}
 use Rattle.wp_ground.specs.Numbering.{atom_cmp, number_in, has_flag}
 use Rattle.wp_ground.proofs.SetLemmas.{In-flat_map_cases, among-from, among-in, same_atom-self}
@@ -156,7 +156,7 @@ from_at (a ∷ atoms) i (suc p) d rises within =
 
 number-at : (atoms : List GroundAtom) (p : ℕ) → Rises AtomBefore atoms → p < length atoms → number_in atoms (atom_at atoms p) ≡ Some p
 number-at atoms p rises within =
-    sym (from-zero (is_same_atom (atom_at atoms p)) atoms) ∙ from_at atoms 0 p _ rises within ∙ ap Some (zero-add p)
+    position_from-zero (is_same_atom (atom_at atoms p)) atoms ∙ from_at atoms 0 p _ rises within ∙ ap Some (zero-add p)
 
 number-cases : (atoms : List GroundAtom) (a : GroundAtom) (p : ℕ) → number_in atoms a ≡ Some p → (p < length atoms) × (atom_at atoms p ≡ a)
 number-cases atoms a p h =
@@ -173,7 +173,7 @@ pub number-is : (atoms : List GroundAtom) (atom : GroundAtom) (found : Option �
     → IfSome found (λ p. p < length atoms) → IfSome found (λ p. atom_at atoms p ≡ atom) → IfNone found (among atoms atom ≡ false)
     → found ≡ number_in atoms atom
 number-is atoms atom None sorted within is none =
-    sym (sym (from-zero (is_same_atom atom) atoms) ∙ from_none (is_same_atom atom) 0 atoms (λ b there.
+    sym (position_from-zero (is_same_atom atom) atoms ∙ from_none (is_same_atom atom) 0 atoms (λ b there.
     false_from_ne_true (is_same_atom atom b) (λ same. both_ways (among atoms atom) none (list_any-from (is_same_atom atom) atoms b there same))))
 number-is atoms atom (Some p) sorted within is none =
     sym (ap (number_in atoms) (sym is) ∙ number-at atoms p (sorted-rises atoms sorted) within)

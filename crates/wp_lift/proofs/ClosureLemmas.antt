@@ -6,7 +6,7 @@ use Rattle.std.proofs.lemmas.List.Sums.{fold-append}
 use Rattle.std.proofs.lemmas.List.FromFn.{map-range_with_len_more}
 use Rattle.std.proofs.lemmas.Grind.{flat_map-append}
 use Rattle.wp_lift.specs.Typing.{grown, grown_by}
-use Rattle.wp_lift.proofs.WalkLemmas.{append_none}
+use Rattle.wp_syntax.proofs.FaultLemmas.{append_none}
 
 pub settled : (n : ℕ) (pairs : List (ℕ × ℕ)) (flags : List Bool) → grown pairs flags ≡ flags → grown_by n pairs flags ≡ flags
 settled zero pairs flags e = refl

@@ -27,11 +27,12 @@ use Rattle.wp_lift.specs.declared.schemas.Slot.TheVariants as slots
 use Rattle.wp_lift.specs.declared.schemas.SlotEffect.{SlotEffect}
 use Rattle.wp_lift.specs.declared.objects.Known.{Known}
 use Rattle.wp_lift.specs.declared.lifting.TypedSchema.{TypedSchema}
+use Rattle.wp_syntax.proofs.FaultLemmas.{none_in_both, not_faulty}
 use Rattle.wp_lift.specs.Problem.{Lifting}
 use Rattle.wp_lift.specs.Worlds.{object_in}
 use Rattle.wp_lift.specs.Names.{number_of}
-use Rattle.wp_lift.specs.Walk.{Walk, Fault, fine, wrong_if, each, each_after}
-use Rattle.wp_lift.specs.Typing.{types_of, kinds_of, is_one_too_many}
+use Rattle.wp_lift.specs.Walk.{Walk, fine, wrong_if, each, each_after}
+use Rattle.wp_lift.specs.Typing.{types_of, kinds_of, is_one_too_many, most_objects}
 use Rattle.wp_lift.specs.Lifting.{Naming, is_variable, param_by, object_by, slot_of, pred_named, arity_of, atom_by, atom_of, cond_of, effect_of, names_of, schema_of, ground_atom_of, stated_after, with_kinds, object_of, objects_of, lifting_of}
 use Rattle.wp_lift.specs.Formed.{IsSlot, IsSlotAtom, IsSlotCond, IsSchema, IsAtom, IsTyped, IsFormed}
 use Rattle.wp_lift.proofs.SubtypeLemmas.{subtypes_length}
@@ -39,14 +40,6 @@ use Rattle.wp_lift.proofs.KindLemmas.{types-there, objects-below, schemas-below}
 use Rattle.wp_lift.proofs.PlaceLemmas.{position-in}
 
 -- ---- walks without faults
-none_in_both : (xs ys : List Fault) → xs ++ ys ≡ [] → (xs ≡ []) × (ys ≡ [])
-none_in_both [] ys e = (refl, e)
-none_in_both (x ∷ xs) ys e = cc
-
-off : (found : Bool) (part : Part) (kind : PddlKind) (at : ℕ) → (wrong_if found part kind at).faults ≡ [] → found ≡ false
-off true part kind at e = cc
-off false part kind at e = refl
-
 each_passes : {A B : Type 0} (one : A → Walk B) (P : B → Type 0) → ((x : A) → (one x).faults ≡ [] → P (one x).value)
     → (xs : List A) → (each one xs).faults ≡ [] → AllByRecursion P (each one xs).value
 each_passes one P passes [] e = tt
@@ -103,7 +96,7 @@ atom_fits_by lifted part params atom (Some pred) h e =
     let counted = length atom.args == arity_of lifted.preds pred in
     let here = none_in_both (wrong_if (not counted) part Arity atom.pred.at).faults (terms.faults ++ []) e in
     let there = none_in_both terms.faults [] here.1 in
-    let same : counted ≡ true = not-false counted (off (not counted) part Arity atom.pred.at here.0) in
+    let same : counted ≡ true = not-false counted (not_faulty (not counted) (record { part = part; kind = Arity; at = atom.pred.at }) here.0) in
     record {
       pred_there = h;
       count = each_length (slot_of naming) atom.args ∙ (Decides-eqb (length atom.args) (arity_of lifted.preds pred)).0 same;
@@ -213,12 +206,12 @@ item_fits lifted part atoms item h e =
 -- ---- objects
 pub record IsKnown (known : Known) : Type 0 where
   pub typed : length known.kinds ≡ length known.names
-  pub few : length known.names ≤ 65536
+  pub few : length known.names ≤ most_objects
 
 with_kinds_fits : (found : Option ℕ) (known : Known) (name kinds : List ℕ) → IsKnown known
-    → (is_none found && leb 65536 (length known.names)) ≡ false → IsKnown (with_kinds found known name kinds)
+    → (is_none found && leb most_objects (length known.names)) ≡ false → IsKnown (with_kinds found known name kinds)
 with_kinds_fits None known name kinds h e =
-    let less : length known.names < 65536 = leb-false 65536 (length known.names) e in
+    let less : length known.names < most_objects = leb-false most_objects (length known.names) e in
     let typed = h.typed in
     record {
       typed = omega (arith, length-append known.kinds (kinds ∷ []), length-append known.names (name ∷ []));
@@ -234,9 +227,9 @@ object_keeps : (part : Part) (types : List (List ℕ)) (known : Known) (typed : 
 unfolding object_of
 object_keeps part types known typed h e =
     let kinds = kinds_of part types typed.kinds in
-    let many = is_one_too_many 65536 known.names typed.name.text in
-    let here = none_in_both (wrong_if many part (TooMany 65536) typed.name.at).faults (kinds.faults ++ []) e in
-    with_kinds_fits (number_of typed.name.text known.names) known typed.name.text kinds.value h (off many part (TooMany 65536) typed.name.at here.0)
+    let many = is_one_too_many most_objects known.names typed.name.text in
+    let here = none_in_both (wrong_if many part (TooMany most_objects) typed.name.at).faults (kinds.faults ++ []) e in
+    with_kinds_fits (number_of typed.name.text known.names) known typed.name.text kinds.value h (not_faulty many (record { part = part; kind = TooMany most_objects; at = typed.name.at }) here.0)
 
 objects_fit : (types : List (List ℕ)) (constants objects : List Typed)
     → (objects_of types constants objects).faults ≡ [] → IsKnown (objects_of types constants objects).value

@@ -11,5 +11,6 @@ pub mod FormedLemmas
 pub mod NamedLemmas
 pub mod FlagLemmas
 pub mod RowLemmas
+pub mod OrderLemmas
 pub mod KindLemmas
 pub mod FitLemmas

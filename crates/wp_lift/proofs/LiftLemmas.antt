@@ -8,17 +8,17 @@ use Rattle.wp_lift.specs.declared.lifting.TypedSchema.{TypedSchema}
 use Rattle.wp_lift.specs.declared.lifting.Scene.{Scene}
 use Rattle.wp_lift.specs.declared.lifting.Facts.{Facts}
 use Rattle.wp_lift.specs.Problem.{Lifting}
-use Rattle.wp_lift.specs.Walk.{Walk, Fault, Fails, fine, each, each_after, ◌>>=◌}
+use Rattle.wp_lift.specs.Walk.{Walk, Fault, told_by, Fails, fine, each, each_after, ◌>>=◌}
 use Rattle.wp_lift.specs.Typing.{types_of}
 use Rattle.wp_lift.specs.Lifting.{objects_of, schema_of, stated_after, ground_atom_of, pred_of, lifting_of}
 use Rattle.wp_lift.specs.Stages.{scene_of, facts_in, facts_of, assembled}
-use Rattle.wp_lift.proofs.WalkLemmas.{append_none, fails_append}
+use Rattle.wp_syntax.proofs.FaultLemmas.{append_none, tells_append}
 
 step : {A B : Type 0} (w : Walk A) (k : A → Walk B) (x : A) → w ≡ fine x → (w >>= k) ≡ k x
 step w k x e = ap (λ (w : Walk _). w >>= k) e
 
 fail : {A B : Type 0} (w : Walk A) (k : A → Walk B) (error : PddlError) → Fails error w.faults → Fails error (w >>= k).faults
-fail w k error h = fails_append error w.faults (k w.value).faults h
+fail w k error h = tells_append (told_by error) w.faults (k w.value).faults h
 
 failing : (a b : Walk Lifting) (error : PddlError) → a ≡ b → Fails error b.faults → Fails error a.faults
 failing a b error e h = subst (λ (w : Walk Lifting). Fails error w.faults) (sym e) h

@@ -9,7 +9,7 @@ use Rattle.std.proofs.lemmas.List.FromFn.{get_or-map-range_with_len, length-map-
 use Rattle.std.proofs.Math.ListN.{length-set}
 use Rattle.wp_syntax.specs.declared.records.Typed.{Typed}
 use Rattle.wp_lift.specs.Typing.{IsSubtype, itself, top, step, is_flagged, flags_of, grown_by, pairs_of, subtypes_of}
-use Rattle.wp_lift.specs.Rows.{either, by_way_of, passed_on, closed_by, marked}
+use Rattle.wp_lift.specs.Rows.{IsOrder, either, by_way_of, passed_on, marked}
 use Rattle.wp_lift.proofs.SubtypeLemmas.{Bounded, flags_at, flags_length, first_above, pairs_bounded, rounds_length, rows-subtypes, or_true, Above}
 
 flag : List (List Bool) → ℕ → ℕ → Bool
@@ -89,15 +89,15 @@ above_all (itself a) next = next
 above_all (top a b first) next = top a _ (above_all first next)
 above_all (step a m b pair first) next = step a m _ pair (above_all first next)
 
--- so many types at the end have handed on what is above them
-Passing : ℕ → ℕ → List (List Bool) → Type 0
-Passing n k rows =
-    (m : ℕ) → k ≤ m → m < n → (a b : ℕ) → a < n → b < n → flag rows a m ≡ true → flag rows m b ≡ true → flag rows a b ≡ true
+-- all types but those that are left have handed on what is above them
+Passing : ℕ → List ℕ → List (List Bool) → Type 0
+Passing n left rows =
+    (m : ℕ) → (Contains left m → ⊥) → m < n → (a b : ℕ) → a < n → b < n → flag rows a m ≡ true → flag rows m b ≡ true → flag rows a b ≡ true
 
-record IsClosing (pairs : List (ℕ × ℕ)) (n k : ℕ) (start rows : List (List Bool)) : Type 0 where
+record IsClosing (pairs : List (ℕ × ℕ)) (n : ℕ) (left : List ℕ) (start rows : List (List Bool)) : Type 0 where
   square : IsSquare n rows
   sound : Sound pairs n rows
-  passing : Passing n k rows
+  passing : Passing n left rows
   keeps : (a b : ℕ) → a < n → b < n → flag start a b ≡ true → flag rows a b ≡ true
 
 -- a flag that is passed on was there, or came by way of the type
@@ -130,10 +130,15 @@ passed_sound pairs n rows middle square hm sound a b ha hb h =
       | inr way ↦ above_all (sound a middle ha hm way.0) (sound middle b hm hb way.1)
     ]
 
-passed_passing : (n : ℕ) (rows : List (List Bool)) (middle : ℕ) → IsSquare n rows → middle < n
-    → Passing n (suc middle) rows → Passing n middle (passed_on rows middle)
+not_first : (middle m : ℕ) (left : List ℕ) → m ≢ middle → (Contains left m → ⊥) → (k : ℕ) → k < length (middle ∷ left)
+    → get_or (middle ∷ left) k m ≡ m → ⊥
+not_first middle m left other none zero h e = other (sym e)
+not_first middle m left other none (suc k) h e = none (k, (let lt : k < length left = omega arith in lt), e)
+
+passed_passing : (n : ℕ) (rows : List (List Bool)) (middle : ℕ) (left : List ℕ) → IsSquare n rows → middle < n
+    → Passing n (middle ∷ left) rows → Passing n left (passed_on rows middle)
 unfolding Passing
-passed_passing n rows middle square hm passing m low hn a b ha hb first second =
+passed_passing n rows middle left square hm passing m none hn a b ha hb first second =
     let one = way_split a m square hm ha hn first in
     let two = way_split m b square hm hn hb second in
     ⊎_elim
@@ -144,7 +149,7 @@ passed_passing n rows middle square hm passing m low hn a b ha hb first second =
     elim two [ inl here ↦ subst (λ (k : ℕ). flag rows k b ≡ true) same here | inr way ↦ way.1 ] in
     way_made a b square hm ha hb before behind)
     (λ (other : m ≢ middle).
-    let high : suc middle ≤ m = omega arith in
+    let high : Contains (middle ∷ left) m → ⊥ = λ found. not_first middle m left other none found.0 found.1 found.2 in
     elim one [
       | inl x ↦ elim two [
         | inl y ↦ way_kept a b square hm ha hb (passing m high hn a b ha hb x y)
@@ -157,20 +162,22 @@ passed_passing n rows middle square hm passing m low hn a b ha hb first second =
     ])
     (cases_eq m middle)
 
-closing_step : (pairs : List (ℕ × ℕ)) (n k : ℕ) (start rows : List (List Bool)) → k < n
-    → IsClosing pairs n (suc k) start rows → IsClosing pairs n k start (passed_on rows k)
-closing_step pairs n k start rows below closing = record {
+closing_step : (pairs : List (ℕ × ℕ)) (n k : ℕ) (left : List ℕ) (start rows : List (List Bool)) → k < n
+    → IsClosing pairs n (k ∷ left) start rows → IsClosing pairs n left start (passed_on rows k)
+closing_step pairs n k left start rows below closing = record {
   square = passed_square n rows k closing.square;
   sound = passed_sound pairs n rows k closing.square below closing.sound;
-  passing = passed_passing n rows k closing.square below closing.passing;
+  passing = passed_passing n rows k left closing.square below closing.passing;
   keeps = λ a b ha hb h. way_kept a b closing.square below ha hb (closing.keeps a b ha hb h);
 }
 
-all_closed : (pairs : List (ℕ × ℕ)) (n k : ℕ) (start rows : List (List Bool)) → k ≤ n
-    → IsClosing pairs n k start rows → IsClosing pairs n 0 start (closed_by k rows)
-all_closed pairs n zero start rows h closing = closing
-all_closed pairs n (suc k) start rows h closing =
-    all_closed pairs n k start (passed_on rows k) (omega arith) (closing_step pairs n k start rows (omega arith) closing)
+all_closed : (pairs : List (ℕ × ℕ)) (n : ℕ) (left : List ℕ) (start rows : List (List Bool)) → ((a : ℕ) → Contains left a → a < n)
+    → IsClosing pairs n left start rows → IsClosing pairs n [] start (fold passed_on rows left)
+all_closed pairs n [] start rows below closing = closing
+all_closed pairs n (k ∷ left) start rows below closing =
+    all_closed pairs n left start (passed_on rows k)
+    (λ a found. below a (suc found.0, (let lt = found.1 in omega arith), found.2))
+    (closing_step pairs n k left start rows (below k (0, omega arith, refl)) closing)
 
 -- the marks of the declared pairs
 mark_row : (rows : List (List Bool)) (pair : ℕ × ℕ) → pair.0 < length rows
@@ -310,20 +317,23 @@ rows_object n a h =
     ap (λ (row : List Bool). get_or row 0 false) (row_of n a h) ∙ flags_at n a 0 (omega arith)
     ∙ ap (λ (t : Bool). (0 == a) || t) ((Decides-eqb 0 0).1 refl) ∙ or_true (0 == a)
 
+none_left : {m : ℕ} → Contains [] m → ⊥
+none_left found = let lt = found.1 in absurd (omega arith)
+
 -- whatever is above is flagged at the end
 all_flagged : (pairs : List (ℕ × ℕ)) (n : ℕ) (rows : List (List Bool)) → Bounded n pairs
-    → IsClosing pairs n 0 (fold marked (rows_of n) pairs) rows → {a b : ℕ} → IsSubtype pairs a b → a < n → b < n → flag rows a b ≡ true
+    → IsClosing pairs n [] (fold marked (rows_of n) pairs) rows → {a b : ℕ} → IsSubtype pairs a b → a < n → b < n → flag rows a b ≡ true
 unfolding Bounded Passing
 all_flagged pairs n rows bounded closing (itself a) ha hb =
     closing.keeps a a ha ha (marks_keep n (rows_of n) pairs a a (rows_square n) ha ha (rows_own n a ha))
 all_flagged pairs n rows bounded closing (top a c above) ha hb =
     let object : 0 < n = omega arith in
-    closing.passing 0 (omega arith) object a c ha hb
+    closing.passing 0 none_left object a c ha hb
     (closing.keeps a 0 ha object (marks_keep n (rows_of n) pairs a 0 (rows_square n) ha object (rows_object n a ha)))
     (all_flagged pairs n rows bounded closing above object hb)
 all_flagged pairs n rows bounded closing (step a m c first above) ha hb =
     let hm : m < n = bounded a m first in
-    closing.passing m (omega arith) hm a c ha hb
+    closing.passing m none_left hm a c ha hb
     (closing.keeps a m ha hm (marks_there n (rows_of n) pairs first.0 (a, m) (rows_square n) ha hm first.1 first.2))
     (all_flagged pairs n rows bounded closing above hm hb)
 
@@ -331,22 +341,22 @@ pub start-count : (n : ℕ) (pairs : List (ℕ × ℕ)) → length (fold marked 
 unfolding rows_of
 start-count n pairs = (marks_square n (rows_of n) pairs (rows_square n)).count
 
-pub closed-subtypes : (types : List (List ℕ)) (declared : List Typed)
-    → closed_by (length types) (fold marked (map (flags_of (length types)) (range_with_len 0 (length types))) (pairs_of types declared))
+pub closed-subtypes : (types : List (List ℕ)) (declared : List Typed) (order : List ℕ) → IsOrder (length types) order
+    → fold passed_on (fold marked (map (flags_of (length types)) (range_with_len 0 (length types))) (pairs_of types declared)) order
     ≡ subtypes_of types declared
 unfolding rows_of subtypes_of flag Passing Sound
-closed-subtypes types declared =
+closed-subtypes types declared order is =
     let n = length types in
     let pairs = pairs_of types declared in
     let start = fold marked (rows_of n) pairs in
-    let rows = closed_by n start in
-    let opening : IsClosing pairs n n start start = record {
+    let rows = fold passed_on start order in
+    let opening : IsClosing pairs n order start start = record {
       square = marks_square n (rows_of n) pairs (rows_square n);
       sound = marks_sound pairs n (rows_of n) pairs (within_all pairs) (rows_square n) (rows_sound pairs n);
-      passing = λ m low high a b ha hb first second. absurd (omega arith);
+      passing = λ m none hm a b ha hb first second. absurd (none (is.each m hm));
       keeps = λ a b ha hb h. h;
     } in
-    let closing : IsClosing pairs n 0 start rows = all_closed pairs n n start start (omega arith) opening in
+    let closing : IsClosing pairs n [] start rows = all_closed pairs n order start start is.below opening in
     let wanted : ℕ → List Bool = λ a. grown_by n pairs (flags_of n a) in
     let wanted_row : (a : ℕ) → a < n → get_or (subtypes_of types declared) a [] ≡ wanted a =
     λ a h. get_or-map-range_with_len wanted 0 n a a [] h (omega arith) in

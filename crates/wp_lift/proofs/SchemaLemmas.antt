@@ -8,10 +8,10 @@ use Rattle.wp_lift.specs.declared.schemas.Pred.{Pred}
 use Rattle.wp_lift.specs.declared.schemas.SlotCond.{SlotCond}
 use Rattle.wp_lift.specs.declared.schemas.SlotEffect.{SlotEffect}
 use Rattle.wp_lift.specs.declared.lifting.TypedSchema.{TypedSchema}
-use Rattle.wp_lift.specs.Walk.{Fails, fine, each}
+use Rattle.wp_lift.specs.Walk.{told_by, Fails, fine, each}
 use Rattle.wp_lift.specs.Typing.{kinds_of}
 use Rattle.wp_lift.specs.Lifting.{Naming, names_of, cond_of, effect_of, schema_of}
-use Rattle.wp_lift.proofs.WalkLemmas.{third-fails}
+use Rattle.wp_syntax.proofs.FaultLemmas.{third_fails}
 
 abbrev pub naming_in : List Pred → List (List ℕ) → List (List ℕ) → Naming
 naming_in preds objects params = record { part = parts.Domain; preds = preds; objects = objects; params = params }
@@ -28,9 +28,9 @@ effects-fail types preds objects params action wanted conds error p w c e =
     let made : List (List ℕ) → List SlotCond → List SlotEffect → TypedSchema =
     λ (wanted : List (List ℕ)) (conds : List SlotCond) (effects : List SlotEffect).
     record { schema = record { name = action.name.text; arity = length action.params; conds = conds; effects = effects }; wanted = wanted } in
-    third-fails (each (λ (param : Typed). kinds_of parts.Domain types param.kinds) action.params)
+    third_fails (each (λ (param : Typed). kinds_of parts.Domain types param.kinds) action.params)
     (each (cond_of (naming_in preds objects (names_of action.params))) action.pre)
     (each (effect_of (naming_in preds objects (names_of action.params))) action.effects)
-    made wanted conds error w
+    made wanted conds (told_by error) w
     (subst (λ (params : List (List ℕ)). each (cond_of (naming_in preds objects params)) action.pre ≡ fine conds) p c)
     (subst (λ (params : List (List ℕ)). Fails error (each (effect_of (naming_in preds objects params)) action.effects).faults) p e)

@@ -20,7 +20,7 @@ both : (p q : Bool) → (p && q) ≡ true → (p ≡ true) × (q ≡ true)
 both true q h = (refl, h)
 both false q h = cc
 
-in_range : (flags : List Bool) (k : ℕ) → get_or flags k false ≡ true → k < length flags
+pub in_range : (flags : List Bool) (k : ℕ) → get_or flags k false ≡ true → k < length flags
 in_range [] k h = cc
 in_range (flag ∷ flags) zero h = omega arith
 in_range (flag ∷ flags) (suc k) h = let here = in_range flags k h in omega arith

@@ -8,39 +8,7 @@ use Rattle.wp_lift.specs.declared.atoms.GroundAtom.{GroundAtom}
 use Rattle.wp_lift.specs.declared.schemas.SlotEffect.{SlotEffect}
 use Rattle.wp_lift.specs.Worlds.{among, is_same_atom, noted, grounded, holds, first_false, after}
 use Rattle.wp_lift.specs.Effects.{deleted_by, atoms_added}
-use Rattle.wp_lift.proofs.SameLemmas.{same-atom, same-atom-sym}
-
-or_false : (b : Bool) → (b || false) ≡ b
-or_false true = refl
-or_false false = refl
-
-or_or : (a b c : Bool) → ((a || b) || c) ≡ (a || (b || c))
-or_or true b c = refl
-or_or false b c = refl
-
-among-push : (atoms : List GroundAtom) (a other : GroundAtom) → among (atoms ++ a ∷ []) other ≡ (among atoms other || is_same_atom other a)
-among-push [] a other = or_false (is_same_atom other a)
-among-push (x ∷ atoms) a other =
-    ap (λ b. is_same_atom other x || b) (among-push atoms a other) ∙ sym (or_or (is_same_atom other x) (among atoms other) (is_same_atom other a))
-
-there : (atoms : List GroundAtom) (a other : GroundAtom) (t : Bool) → is_same_atom other a ≡ t → among atoms a ≡ true → among atoms other ≡ (among atoms other || t)
-there atoms a other true e h = let same = ap (among atoms) (same-atom other a e) ∙ h in same ∙ ap (λ b. b || true) (sym same)
-there atoms a other false e h = sym (or_false (among atoms other))
-
-by_case : (atoms : List GroundAtom) (a other : GroundAtom) (t : Bool) → among atoms a ≡ t
-    → among (cond t atoms (atoms ++ a ∷ [])) other ≡ (among atoms other || is_same_atom other a)
-by_case atoms a other true e = there atoms a other (is_same_atom other a) refl e
-by_case atoms a other false e = among-push atoms a other
-
-pub among-noted : (atoms : List GroundAtom) (a other : GroundAtom) → among (noted atoms a) other ≡ (among atoms other || is_same_atom other a)
-among-noted atoms a other = by_case atoms a other (among atoms a) refl
-
-pub among-noted_all : (atoms news : List GroundAtom) (other : GroundAtom) → among (fold noted atoms news) other ≡ (among atoms other || among news other)
-among-noted_all atoms [] other = sym (or_false (among atoms other))
-among-noted_all atoms (a ∷ news) other =
-    among-noted_all (noted atoms a) news other
-    ∙ ap (λ b. b || among news other) (among-noted atoms a other)
-    ∙ or_or (among atoms other) (is_same_atom other a) (among news other)
+use Rattle.wp_lift.proofs.SameLemmas.{same-atom-sym, among-noted_all}
 
 less : (b s m : Bool) → ((b && not s) && not m) ≡ (b && not (s || m))
 less true true m = refl

@@ -11,6 +11,7 @@ use Rattle.wp_lift.specs.declared.schemas.SlotCond.{SlotCond}
 use Rattle.wp_lift.specs.declared.schemas.SlotCond.TheVariants as conds
 use Rattle.wp_lift.specs.declared.schemas.SlotEffect.{SlotEffect}
 use Rattle.wp_lift.specs.Problem.{Lifting, pred_at}
+use Rattle.wp_lift.specs.Typing.{most_objects}
 
 -- a parameter of a schema with so many of them, or an object
 abbrev pub IsSlot : Lifting → ℕ → Slot → Type 0
@@ -47,7 +48,7 @@ abbrev pub AreKinds : Lifting → List ℕ → Type 0
 AreKinds lifted kinds = All (λ kind. kind < length lifted.subtypes) kinds
 
 pub record IsFormed (lifted : Lifting) : Type 0 where
-  pub few_objects : length lifted.objects ≤ 65536
+  pub few_objects : length lifted.objects ≤ most_objects
   pub typed_objects : length lifted.kinds ≡ length lifted.objects
   pub objects_kinds : All (AreKinds lifted) lifted.kinds
   pub schemas_fit : All (IsSchema lifted) lifted.schemas

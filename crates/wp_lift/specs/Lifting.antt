@@ -31,7 +31,7 @@ use Rattle.wp_lift.specs.Problem.{Lifting}
 use Rattle.wp_lift.specs.Worlds.{grounded}
 use Rattle.wp_lift.specs.Names.{number_of}
 use Rattle.wp_lift.specs.Walk.{Walk, fine, wrong, wrong_if, each, each_after, ◌>>◌, ◌>>=◌}
-use Rattle.wp_lift.specs.Typing.{types_of, kinds_of, subtypes_of, is_one_too_many}
+use Rattle.wp_lift.specs.Typing.{types_of, kinds_of, subtypes_of, is_one_too_many, most_objects}
 
 -- an object that is declared again keeps its place and has all its types
 abbrev pub with_kinds : Option ℕ → Known → List ℕ → List ℕ → Known
@@ -44,7 +44,7 @@ with_object known name kinds = with_kinds (number_of name known.names) known nam
 
 unfoldable pub object_of : Part → List (List ℕ) → Known → Typed → Walk Known
 object_of part types known typed =
-    wrong_if (is_one_too_many 65536 known.names typed.name.text) part (TooMany 65536) typed.name.at >> (do
+    wrong_if (is_one_too_many most_objects known.names typed.name.text) part (TooMany most_objects) typed.name.at >> (do
       kinds ← kinds_of part types typed.kinds
       fine (with_object known typed.name.text kinds))
 

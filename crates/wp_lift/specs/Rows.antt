@@ -1,6 +1,6 @@
--- Rows of flags, packed into words of 64 bits, and how they are closed: each type in its turn hands what is above it to all
--- that it is above (Warshall, A theorem on Boolean matrices, JACM 1962).
-use Rattle.std.specs.Prelude.{ℕ, ◌==◌, ◌||◌, ◌/◌, ◌%◌, Bool, true, List, [], length, map, slice_index, slice_index_or, slice_set, zero, suc, if◌then◌else◌}
+-- Rows of flags, packed into words of 64 bits, and how they are closed: each type in its turn, in any order, hands what is above it to
+-- all that it is above (Warshall, A theorem on Boolean matrices, JACM 1962).
+use Rattle.std.specs.Prelude.{ℕ, ◌≡◌, ◌<◌, ◌==◌, ◌||◌, ◌/◌, ◌%◌, Bool, true, List, [], length, map, slice_index, slice_index_or, slice_set, Contains, if◌then◌else◌}
 use Rattle.std.specs.List.{range_with_len}
 use Rattle.std.specs.Int.{bit_at}
 use Rattle.wp_lift.specs.Typing.{is_flagged}
@@ -24,10 +24,15 @@ by_way_of middle above row = if is_flagged row middle then either row above else
 abbrev pub passed_on : List (List Bool) → ℕ → List (List Bool)
 passed_on rows middle = map (by_way_of middle (slice_index_or rows middle [])) rows
 
--- by way of so many types, the last of them first
-abbrev pub closed_by : ℕ → List (List Bool) → List (List Bool)
-closed_by zero rows = rows
-closed_by (suc middle) rows = closed_by middle (passed_on rows middle)
+-- all of so many types, and nothing else
+pub record IsOrder (count : ℕ) (order : List ℕ) : Type 0 where
+  pub below : (a : ℕ) → Contains order a → a < count
+  pub each : (a : ℕ) → a < count → Contains order a
+
+-- types, with a flag for each that is among them, and for none besides
+pub record IsListing (order : List ℕ) (listed : List Bool) : Type 0 where
+  pub below : (a : ℕ) → Contains order a → a < length listed
+  pub known : (a : ℕ) → is_flagged listed a ≡ true → Contains order a
 
 -- the second type of a pair is above the first
 abbrev pub marked : List (List Bool) → ℕ × ℕ → List (List Bool)

@@ -39,10 +39,17 @@ noted_name names name = if is_none (number_of name names) then names ++ name ∷
 abbrev pub is_one_too_many : ℕ → List (List ℕ) → List ℕ → Bool
 is_one_too_many limit names name = is_none (number_of name names) && nat_le limit (length names)
 
--- a type is declared by its name or as a kind. `object` has number 0, and is not counted among the 4096
+-- so many types, and so many objects
+abbrev pub most_types : ℕ
+most_types = 4096
+
+abbrev pub most_objects : ℕ
+most_objects = 65536
+
+-- a type is declared by its name or as a kind. `object` has number 0, and is not counted
 abbrev pub type_of_word : Part → List (List ℕ) → Name → Walk (List (List ℕ))
 type_of_word part types word =
-    wrong_if (is_one_too_many 4097 types word.text) part (TooMany 4096) word.at >> fine (noted_name types word.text)
+    wrong_if (is_one_too_many (suc most_types) types word.text) part (TooMany most_types) word.at >> fine (noted_name types word.text)
 
 unfoldable pub types_of : Part → List Typed → Walk (List (List ℕ))
 types_of part declared = each_after (type_of_word part) (codes "object" ∷ []) (words_of declared)

@@ -1,67 +1,35 @@
--- A walk through the records of a domain and a problem, as all faults of names in the order in which they are met, beside a
--- value, which means something where there is no fault. The answer is the first fault.
-use Rattle.std.specs.Prelude.{ℕ, ◌≡◌, Bool, Option, None, Some, Result, Ok, Err, List, [], ◌∷◌, ◌++◌, if◌then◌else◌}
+-- A walk through the records of a domain and a problem: a value beside all faults of names, in the order in which they are met.
+use Rattle.std.specs.Prelude.{ℕ, Bool, Option, None, Some, Result, List}
 use Rattle.wp_syntax.specs.declared.error.Part.{Part}
 use Rattle.wp_syntax.specs.declared.error.PddlKind.{PddlKind}
 use Rattle.wp_syntax.specs.declared.error.PddlError.{PddlError}
 use Rattle.wp_syntax.specs.declared.error.PddlError.TheVariants as errors
+use Rattle.wp_syntax.specs.Faults.{Checked, faulty, faulty_if, Tells, Returns}
+pub use Rattle.wp_syntax.specs.Faults.{fine, ◌>>=◌, ◌>>◌, each, each_after, behind, first}
+pub use Rattle.wp_lift.specs.declared.fault.Fault.{Fault}
 
--- a fault with the text in which it stands, and its place there
-pub record Fault : Type 0 where
-  pub part : Part
-  pub kind : PddlKind
-  pub at : ℕ
-
-pub record Walk (A : Type 0) : Type 0 where
-  pub faults : List Fault
-  pub value : A
-
-abbrev pub fine : {A : Type 0} → A → Walk A
-fine x = record { faults = []; value = x }
+abbrev pub Walk : Type 0 → Type 0
+Walk A = Checked Fault A
 
 abbrev pub wrong : Part → PddlKind → ℕ → Walk (Unit {0})
-wrong part kind at = record { faults = record { part = part; kind = kind; at = at } ∷ []; value = tt }
+wrong part kind at = faulty (record { part = part; kind = kind; at = at })
 
 abbrev pub wrong_if : Bool → Part → PddlKind → ℕ → Walk (Unit {0})
-wrong_if found part kind at = record { faults = (if found then record { part = part; kind = kind; at = at } ∷ [] else []); value = tt }
+wrong_if found part kind at = faulty_if found (record { part = part; kind = kind; at = at })
 
-infixl 10 ◌>>=◌
-abbrev pub ◌>>=◌ : {A B : Type 0} → Walk A → (A → Walk B) → Walk B
-walk >>= next = let behind = next walk.value in record { faults = walk.faults ++ behind.faults; value = behind.value }
-
-infixl 10 ◌>>◌
-abbrev pub ◌>>◌ : {B : Type 0} → Walk (Unit {0}) → Walk B → Walk B
-walk >> behind = record { faults = walk.faults ++ behind.faults; value = behind.value }
-
--- what a step makes of each item, in their order
-abbrev pub each : {A B : Type 0} → (A → Walk B) → List A → Walk (List B)
-each one [] = fine []
-each one (x ∷ xs) = do
-  y ← one x
-  ys ← each one xs
-  fine (y ∷ ys)
-
--- a step that goes on from what the items before have made
-abbrev pub each_after : {A S : Type 0} → (S → A → Walk S) → S → List A → Walk S
-each_after one state [] = fine state
-each_after one state (x ∷ xs) = do
-  next ← one state x
-  each_after one next xs
-
-abbrev pub first : List Fault → Option Fault
-first [] = None
-first (fault ∷ faults) = Some fault
+-- the fault that an error tells
+abbrev pub told_by : PddlError → Option Fault
+told_by errors.Memory = None
+told_by (errors.Bad part kind at) = Some (record { part = part; kind = kind; at = at })
 
 -- an error is want of memory, or the first fault
 abbrev pub Fails : PddlError → List Fault → Type 0
-Fails errors.Memory faults = Unit {0}
-Fails (errors.Bad part kind at) faults = first faults ≡ Some (record { part = part; kind = kind; at = at })
+Fails error faults = Tells (told_by error) faults
 
 -- what is returned is the value of a walk without faults, or its first fault
 abbrev pub Gives : {A : Type 0} → Result A PddlError → Walk A → Type 0
-Gives (Ok x) walk = walk ≡ fine x
-Gives (Err error) walk = Fails error walk.faults
+Gives result walk = Returns told_by result walk
 
--- the same with items in front of its list
-abbrev pub behind : {A : Type 0} → List A → Walk (List A) → Walk (List A)
-behind front walk = record { faults = walk.faults; value = front ++ walk.value }
+-- the same of a call that takes no memory
+abbrev pub Finds : {A : Type 0} → Result A Fault → Walk A → Type 0
+Finds result walk = Returns (λ fault. Some fault) result walk

@@ -4,11 +4,12 @@ ghost use Rattle.std.specs.Prelude.{◌≡◌, ◌<◌, map, fold, length, IfOk,
 ghost use Rattle.std.specs.List.{range_with_len};
 ghost use Rattle.wp_syntax.specs.declared.records.Name.{Name};
 ghost use Rattle.wp_lift.specs.Typing.{type_number, pairs_of, flags_of, subtypes_of};
-ghost use Rattle.wp_lift.specs.Rows.{marked, by_way_of, passed_on, closed_by};
+ghost use Rattle.wp_lift.specs.Rows.{IsOrder, marked, by_way_of, passed_on};
 
 use crate::fault::{narrow, push};
 use crate::flags::Flags;
 use crate::names::NameTable;
+use crate::order::order_of;
 use crate::types::Rows;
 use std::alloc::{AllocError, Global};
 use wp_edge::Text;
@@ -95,20 +96,18 @@ fn pass_on(alloc: Global, rows: &mut Vec<Flags>, middle: u32) -> Result<(), Allo
     Ok(())
 }
 
-fn close(alloc: Global, rows: &mut Vec<Flags>, count: u32) -> Result<(), AllocError>
-    requires { count ≡ length rows.old.items }
-    ensures { OnOk result (rows.new.items ≡ closed_by count rows.old.items) }
+fn close(alloc: Global, rows: &mut Vec<Flags>, order: &[u32]) -> Result<(), AllocError>
+    requires { IsOrder (length rows.old.items) order.now }
+    ensures { OnOk result (rows.new.items ≡ fold passed_on rows.old.items order.now) }
 {
-    let mut left = count;
-    while left > 0 {
-        left -= 1;
-        pass_on(alloc, rows, left)?;
+    for middle in order {
+        pass_on(alloc, rows, *middle)?;
     }
     Ok(())
 }
 
-/// Of each type, for each type whether it is above. Whatever the pairs, a row of bits is joined to another at most once for each
-/// pair of types.
+/// Of each type, for each type whether it is above. A row of bits is joined to another once for each declared pair, where no two
+/// types are above one another, and never more often than there are pairs of types.
 #[tactic(auto, unfolding(crate::specs::Typing::subtypes_of))]
 pub fn subtypes_of(alloc: Global, types: &NameTable, declared: &[Typed]) -> Result<Rows, AllocError>
     ensures { IfOk result (λ rows. rows ≡ subtypes_of types.now declared.now) }
@@ -116,6 +115,7 @@ pub fn subtypes_of(alloc: Global, types: &NameTable, declared: &[Typed]) -> Resu
     let count = narrow(types.names().as_slice().len())?;
     let mut rows = all_flags(alloc, count)?;
     mark_all(&mut rows, types, declared);
-    close(alloc, &mut rows, count)?;
+    let order = order_of(alloc, rows.as_slice(), count)?;
+    close(alloc, &mut rows, order.as_slice())?;
     Ok(Rows::of_vec(rows))
 }

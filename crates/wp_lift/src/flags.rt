@@ -62,6 +62,21 @@ impl Flags {
         }
     }
 
+    /// A place whose flag is set here and not in the other row, of the first word that has one.
+    pub fn first_beyond(&self, other: &Flags) -> Option<u32> {
+        let words = self.words.as_slice();
+        for place in 0..words.len() {
+            let more = words[place] & !word_at(other.words.as_slice(), place);
+            if more != 0 {
+                let Ok(word) = u32::try_from(place) else {
+                    return None;
+                };
+                return word.checked_mul(64)?.checked_add(more.trailing_zeros());
+            }
+        }
+        None
+    }
+
     /// An equal row in memory of its own.
     pub fn copy(&self, alloc: Global) -> Result<Flags, AllocError>
         ensures { IfOk result (λ flags. flags ≡ self.now) }

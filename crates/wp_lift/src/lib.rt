@@ -5,7 +5,7 @@
 //! `lift` turns the records of `wp_syntax` into it, or answers the first fault of the walk of `specs/Lifting.antt`.
 //!
 //! Names are numbered in the order in which they are first seen, by hashing; subtypes are the closure of the declared
-//! pairs, one row of bits for each type. `wp_check` and `wp_ground` stand on it; it knows no plan and no search.
+//! pairs, one row of bits for each type, and types hand on what is above them in the order of a depth-first walk. `wp_check` and `wp_ground` stand on it; it knows no plan and no search.
 #![tactic(auto)]
 
 mod atoms;
@@ -18,6 +18,7 @@ mod lifting;
 mod meaning;
 mod names;
 mod objects;
+mod order;
 mod preds;
 mod schemas;
 mod scope;
@@ -26,6 +27,7 @@ mod typing;
 mod world;
 
 pub use atoms::{Args, GroundAtom, GroundAtoms};
+pub use fault::Fault;
 pub use laws::{
     liftings_are_formed, liftings_are_named, objects_fit_by_subtypes, rows_are_subtypes,
 };

@@ -12,6 +12,9 @@ use std::alloc::{AllocError, Global};
 use wp_edge::Text;
 use wp_syntax::{Part, PddlError, PddlKind, Typed};
 
+/// So many objects may be declared, constants among them.
+const MOST_OBJECTS: u32 = 65536;
+
 /// The objects so far, with the types that each was declared with.
 #[derive(Drop)]
 pub struct Known {
@@ -51,8 +54,11 @@ fn object_of(
 ) -> Result<Known, PddlError>
     ensures { Gives result (object_of part types.now known typed.now) }
 {
-    if is_one_too_many(65536, &known.names, &typed.name.text) {
-        return Err(bad(part, PddlKind::TooMany { limit: 65536 }, typed.name.at));
+    if is_one_too_many(MOST_OBJECTS as usize, &known.names, &typed.name.text) {
+        let kind = PddlKind::TooMany {
+            limit: MOST_OBJECTS,
+        };
+        return Err(bad(part, kind, typed.name.at));
     }
     let kinds = kinds_of(alloc, part, types, typed.kinds.as_slice())?;
     let known = with_object(alloc, known, &typed.name.text, kinds)?;

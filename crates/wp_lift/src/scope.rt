@@ -1,10 +1,10 @@
 //! What the names of an atom stand for.
 
 ghost use Rattle.std.specs.Prelude.{◌≡◌};
-ghost use Rattle.wp_lift.specs.Walk.{Gives, each};
+ghost use Rattle.wp_lift.specs.Walk.{Finds, Gives, each};
 ghost use Rattle.wp_lift.specs.Lifting.{naming_of, is_variable, slot_of, atom_of};
 
-use crate::fault::{bad, push};
+use crate::fault::{Fault, bad, push, wrong};
 use crate::names::NameTable;
 use crate::preds::PredTable;
 use crate::schemas::{Slot, SlotAtom, Slots};
@@ -29,18 +29,18 @@ fn is_variable(word: &Text) -> bool
 
 /// What a term stands for.
 #[tactic(auto, unfolding(crate::specs::Lifting::slot_of))]
-pub fn slot_of(scope: Scope<'_>, term: &Name) -> Result<Slot, PddlError>
-    ensures { Gives result (slot_of (naming_of scope.entry) term.now) }
+pub fn slot_of(scope: Scope<'_>, term: &Name) -> Result<Slot, Fault>
+    ensures { Finds result (slot_of (naming_of scope.entry) term.now) }
 {
     if is_variable(&term.text) {
         match scope.params.number_of(&term.text) {
             Some(place) => Ok(Slot::Param { place }),
-            None => Err(bad(scope.part, PddlKind::UnknownVariable, term.at)),
+            None => Err(wrong(scope.part, PddlKind::UnknownVariable, term.at)),
         }
     } else {
         match scope.objects.number_of(&term.text) {
             Some(number) => Ok(Slot::Object { number }),
-            None => Err(bad(scope.part, PddlKind::UnknownObject, term.at)),
+            None => Err(wrong(scope.part, PddlKind::UnknownObject, term.at)),
         }
     }
 }

@@ -1,15 +1,18 @@
 //! Declared types and kinds.
 
 ghost use Rattle.std.specs.Prelude.{◌≡◌, IfOk};
-ghost use Rattle.wp_lift.specs.Walk.{Gives, each, each_after};
+ghost use Rattle.wp_lift.specs.Walk.{Finds, Gives, each, each_after};
 ghost use Rattle.wp_lift.specs.Typing.{is_same_place, first_place, next_place, noted_name, is_one_too_many, type_of_word, types_of, group_of, kind_of, kinds_of};
 
-use crate::fault::{bad, push};
+use crate::fault::{Fault, bad, push, wrong};
 use crate::names::NameTable;
 use crate::types::TypeNumbers;
 use std::alloc::{AllocError, Global};
 use wp_edge::Text;
 use wp_syntax::{Name, Part, PddlError, PddlKind, Typed};
+
+/// So many types may be declared, `object` apart.
+const MOST_TYPES: u32 = 4096;
 
 /// Whether the name is new where as many as the limit are there.
 pub fn is_one_too_many(limit: usize, names: &NameTable, name: &Text) -> bool
@@ -38,8 +41,9 @@ fn type_of_word(
 ) -> Result<NameTable, PddlError>
     ensures { Gives result (type_of_word part types word.now) }
 {
-    if is_one_too_many(4097, &types, &word.text) {
-        return Err(bad(part, PddlKind::TooMany { limit: 4096 }, word.at));
+    // `object` is in the table, and does not count.
+    if is_one_too_many(MOST_TYPES as usize + 1, &types, &word.text) {
+        return Err(bad(part, PddlKind::TooMany { limit: MOST_TYPES }, word.at));
     }
     let types = noted_name(alloc, types, &word.text)?;
     Ok(types)
@@ -120,12 +124,12 @@ pub fn types_of(alloc: Global, part: Part, declared: &[Typed]) -> Result<NameTab
     Ok(types)
 }
 
-fn kind_of(part: Part, types: &NameTable, kind: &Name) -> Result<u32, PddlError>
-    ensures { Gives result (kind_of part types.now kind.now) }
+fn kind_of(part: Part, types: &NameTable, kind: &Name) -> Result<u32, Fault>
+    ensures { Finds result (kind_of part types.now kind.now) }
 {
     match types.number_of(&kind.text) {
         Some(number) => Ok(number),
-        None => Err(bad(part, PddlKind::UnknownType, kind.at)),
+        None => Err(wrong(part, PddlKind::UnknownType, kind.at)),
     }
 }
 

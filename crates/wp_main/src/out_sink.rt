@@ -1,6 +1,7 @@
 //! The real sink: standard output, flushed after each put.
 
 ghost use Rattle.std.specs.Prelude.{◌≡◌, ◌≤◌, ◌<◌, ℕ, IfSome, length};
+ghost use Rattle.wp_main.specs.Writes.{IsWritten};
 
 use std::io;
 use std::io::Write;
@@ -30,7 +31,7 @@ impl<'a, R: Print> Sink for OutSink<'a, R> {
     ghost faults = { λ sink. sink.faults };
 
     fn put(&mut self, piece: &[u8]) -> Result<u64, SinkError> {
-        match write_some(self.rt, piece) {
+        match write_some(&mut io::writer(self.rt), piece) {
             Some(count) => Ok(count),
             None => {
                 self.faults = self.faults.saturating_add(1);
@@ -41,11 +42,10 @@ impl<'a, R: Print> Sink for OutSink<'a, R> {
 }
 
 /// Writes some of the piece and flushes. Where nothing was taken that is a failure too.
-fn write_some<R: Print>(rt: &R, piece: &[u8]) -> Option<u64>
-    ensures some { IfSome result (λ count. 1 ≤ count) }
-    ensures within { IfSome result (λ count. count ≤ length piece.now) }
+fn write_some<W: Write>(output: &mut W, piece: &[u8]) -> Option<u64>
+    ensures taken { IfSome result
+        (IsWritten (W.contents output.old) (W.contents output.new) piece.now) }
 {
-    let mut output = io::writer(rt);
     let count = output.write(piece).ok()?;
     output.flush().ok()?;
     if count == 0 { None } else { Some(count as u64) }
@@ -54,13 +54,52 @@ fn write_some<R: Print>(rt: &R, piece: &[u8]) -> Option<u64>
 #[cfg(test)]
 mod tests {
     use super::*;
+    use std::io::{Error, ErrorKind};
     use std::test::Fail;
+
+    /// An output that takes one byte a write, and whose flush fails where it is broken.
+    #[derive(Drop)]
+    struct Narrow {
+        taken: u64,
+        broken: bool,
+    }
+
+    impl Write for Narrow {
+        fn write(&mut self, piece: &[u8]) -> io::Result<usize> {
+            if piece.is_empty() {
+                return Ok(0);
+            }
+            self.taken = self.taken.saturating_add(1);
+            Ok(1)
+        }
+
+        fn flush(&mut self) -> io::Result<()> {
+            if self.broken {
+                Err(Error::from(ErrorKind::BrokenPipe))
+            } else {
+                Ok(())
+            }
+        }
+    }
 
     #[test]
     fn a_piece_goes_to_standard_output(rt: HostRuntime) -> Result<(), Fail> {
         let mut sink = OutSink::new(&rt);
         assert_eq!(rt; sink.put(b"; valid\n")?, 8);
         assert_eq!(rt; sink.faults, 0);
+        Ok(())
+    }
+
+    #[test]
+    fn a_failed_flush_is_a_failed_put(rt: HostRuntime) -> Result<(), Fail> {
+        let mut narrow = Narrow {
+            taken: 0,
+            broken: false,
+        };
+        assert_eq!(rt; write_some(&mut narrow, b"; valid\n"), Some(1));
+        narrow.broken = true;
+        assert_eq!(rt; write_some(&mut narrow, b" valid\n"), None);
+        assert_eq!(rt; narrow.taken, 2);
         Ok(())
     }
 }

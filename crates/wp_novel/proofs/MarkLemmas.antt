@@ -1,15 +1,19 @@
--- What marks leave in the words.
-use Rattle.std.proofs.Common.{◌≡◌, ◌≢◌, ◌==◌, ◌||◌, ℕ, ◌+◌, ◌<◌, ◌≤◌, min, Bool, true, false, List, [], ◌∷◌, length, refl, sym, ap, ◌∙◌, subst, inl, inr, ⊎_elim, arith, length-set}
-use Rattle.std.specs.Prelude.{slice_index}
-use Rattle.std.specs.List.{Contains, fold, list_all, list_any}
-use Rattle.std.proofs.lemmas.Bool.{cases_Bool, cases_eq, eq-eqb, ne_eqb, eqb-true, both_ways, false_from_ne_true}
-use Rattle.std.proofs.lemmas.List.{get_or-set_same, get_or-set_other}
+-- What marks leave at the places of tuples.
+use Rattle.std.proofs.Common.{◌≡◌, ◌==◌, ◌&&◌, ◌||◌, ℕ, ◌+◌, ◌-◌, ◌^◌, ◌≤◌, min, cond, Bool, true, false, List, [], ◌∷◌, length, refl, sym, ap, ◌∙◌, ⊎_elim, arith}
+use Rattle.std.specs.List.{Contains, list_all, list_any, All}
+use Rattle.std.proofs.lemmas.Bool.{cases_Bool, eq-eqb, eqb-true, both_ways, false_from_ne_true}
+use Rattle.std.proofs.lemmas.List.Elements.{All-head, All-tail}
 use Rattle.wp_task.specs.Set.{has}
-use Rattle.wp_task.proofs.Members.{In, In-from_Contains, Contains-from_In, list_any-from, list_any-at}
+use Rattle.wp_task.specs.Novelty.{Generated}
+use Rattle.wp_task.proofs.Members.{In-from_Contains, Contains-from_In, list_any-from, list_any-at}
 use Rattle.wp_tuples.specs.TuplePlaces.{Indexed, place_of, tuples_of}
 use Rattle.wp_tuples.proofs.PlaceLemmas.{are_numbered}
 use Rattle.wp_tuples.proofs.Triangles.{triangle}
-use Rattle.wp_novel.specs.Marks.{lowered, marked_at, marked_by, IsMarked}
+use Rattle.wp_arrive.specs.FirstArrival.{first}
+use Rattle.wp_arrive.proofs.Firsts.{first_le, first_append}
+use Rattle.wp_novel.specs.NoveltyTables.{is_same}
+use Rattle.wp_novel.specs.StandsFor.{first_number}
+use Rattle.wp_novel.specs.Marks.{marks_at, birth_marks, marks_for}
 use Rattle.wp_novel.specs.TrueTuples.{true_tuples}
 use Rattle.wp_novel.proofs.TrueTupleLemmas.{true_tuples_listed}
 
@@ -17,41 +21,19 @@ use Rattle.wp_novel.proofs.TrueTupleLemmas.{true_tuples_listed}
 abbrev pub row : ℕ → ℕ → ℕ
 row atoms q = atoms + triangle q
 
-pub length-marked : {X : Type 0} (number : ℕ) (place : X → ℕ) (xs : List X) (words : List ℕ) →
-    length (fold (λ ws x. marked_at number ws (place x)) words xs) ≡ length words
-length-marked number place [] words = refl
-length-marked number place (x ∷ xs) words =
-    length-marked number place xs (marked_at number words (place x)) ∙ length-set words (place x) (min (slice_index words (place x)) number)
-
-at_place : (number : ℕ) (words : List ℕ) (place t : ℕ) → place < length words →
-    slice_index (marked_at number words place) t ≡ lowered (place == t) number (slice_index words t)
-at_place number words place t within = ⊎_elim
-    (λ (here : place ≡ t).
-    subst (λ (k : ℕ). slice_index (marked_at number words place) k ≡ lowered (place == k) number (slice_index words k)) here
-    (get_or-set_same words place (min (slice_index words place) number) 0 within
-    ∙ ap (λ (b : Bool). lowered b number (slice_index words place)) (sym (eq-eqb place place refl))))
-    (λ (other : place ≢ t).
-    get_or-set_other words place t (min (slice_index words place) number) 0 (λ same. other (sym same))
-    ∙ ap (λ (b : Bool). lowered b number (slice_index words t)) (sym (ne_eqb place t other)))
-    (cases_eq place t)
-
-twice : (b c : Bool) (number word : ℕ) → lowered b number (lowered c number word) ≡ lowered (c || b) number word
-twice true true number word = omega arith
-twice true false number word = refl
-twice false true number word = refl
-twice false false number word = refl
-
-marked-places : (atoms number : ℕ) (tuples : List (List ℕ)) (words : List ℕ) (t : ℕ) → ((u : List ℕ) → In u tuples → place_of atoms u < length words) →
-    slice_index (fold (marked_by atoms number) words tuples) t ≡ lowered (list_any (λ u. place_of atoms u == t) tuples) number (slice_index words t)
-marked-places atoms number [] words t within = refl
-marked-places atoms number (u ∷ tuples) words t within =
-    let place : ℕ = place_of atoms u in
-    let later : Bool = list_any (λ v. place_of atoms v == t) tuples in
-    marked-places atoms number tuples (marked_at number words place) t
-    (λ v there. let below : place_of atoms v < length words = within v (inr there) in
-    omega (arith, length-set words place (min (slice_index words place) number)))
-    ∙ (ap (lowered later number) (at_place number words place t (within u (inl refl)))
-    ∙ twice later (place == t) number (slice_index words t))
+-- the first arrival at a place of a number that is marked at some tuples
+first-marks_at : (atoms number : ℕ) (tuples : List (List ℕ)) (t : ℕ) → number ≤ 2 ^ 64 - 1 →
+    first (marks_at atoms number tuples) t ≡ cond (list_any (λ u. place_of atoms u == t) tuples) number (2 ^ 64 - 1)
+first-marks_at atoms number [] t low = refl
+first-marks_at atoms number (u ∷ tuples) t low =
+    ap (λ n. cond (place_of atoms u == t) (min number n) n) (first-marks_at atoms number tuples t low)
+    ∙ out (place_of atoms u == t) (list_any (λ v. place_of atoms v == t) tuples)
+  where
+    out : (b c : Bool) → cond b (min number (cond c number (2 ^ 64 - 1))) (cond c number (2 ^ 64 - 1)) ≡ cond (b || c) number (2 ^ 64 - 1)
+    out true true = omega arith
+    out true false = omega arith
+    out false true = refl
+    out false false = refl
 
 module _ (index : Indexed) (state : List Bool) (low : 1 ≤ index.width) (high : index.width ≤ 2) (size : length state ≡ index.atoms) where
   same_test : (tuple : List ℕ) → Contains (tuples_of index) tuple →
@@ -72,16 +54,32 @@ module _ (index : Indexed) (state : List Bool) (low : 1 ≤ index.width) (high :
       ∙ sym fails)
       (cases_Bool (list_all (has state) tuple))
 
-  pub is_marked : (number : ℕ) (old new : List ℕ) → length old ≡ length (tuples_of index) →
-      new ≡ fold (marked_by index.atoms number) old (true_tuples index.width state) → IsMarked index state number old new
-  is_marked number old new words is = record {
-    len = ap length is ∙ length-marked number (place_of index.atoms) (true_tuples index.width state) old;
-    words = λ tuple h.
-        ap (λ ws. slice_index ws (place_of index.atoms tuple)) is
-        ∙ (marked-places index.atoms number (true_tuples index.width state) old (place_of index.atoms tuple)
-        (λ u there.
-        let listed = (true_tuples_listed index state u low high size).0 (Contains-from_In u (true_tuples index.width state) there) in
-        let below : place_of index.atoms u < length (tuples_of index) = (are_numbered index.atoms index.width low high).below u listed.0 in
-        omega arith)
-        ∙ ap (λ (b : Bool). lowered b number (slice_index old (place_of index.atoms tuple))) (same_test tuple h));
-  }
+  -- the first arrival of a birth's marks at the place of a tuple
+  first_of_state : (number : ℕ) (tuple : List ℕ) → number ≤ 2 ^ 64 - 1 → Contains (tuples_of index) tuple →
+      first (marks_at index.atoms number (true_tuples index.width state)) (place_of index.atoms tuple) ≡ cond (list_all (has state) tuple) number (2 ^ 64 - 1)
+  first_of_state number tuple low h =
+      first-marks_at index.atoms number (true_tuples index.width state) (place_of index.atoms tuple) low
+      ∙ ap (λ b. cond b number (2 ^ 64 - 1)) (same_test tuple h)
+
+-- the first arrival of the marks of births is the number of the first birth that has the tuple
+pub first_of_births : (index : Indexed) (births : List Generated) (counters : ℕ × ℕ) (tuple : List ℕ) → 1 ≤ index.width → index.width ≤ 2 →
+    All (λ b. length b.state ≡ index.atoms) births → All (λ b. b.number ≤ 2 ^ 64 - 1) births → Contains (tuples_of index) tuple →
+    first (marks_for index counters births) (place_of index.atoms tuple) ≡ first_number births counters tuple
+first_of_births index [] counters tuple low high sizes numbers h = refl
+first_of_births index (b ∷ births) counters tuple low high sizes numbers h =
+    first_append (birth_marks index counters b) (marks_for index counters births) (place_of index.atoms tuple)
+    ∙ by (is_same b.counters counters) (list_all (has b.state) tuple)
+    (first_of_state index b.state low high (All-head (λ (x : Generated). length x.state ≡ index.atoms) b births sizes) b.number tuple
+    (All-head (λ (x : Generated). x.number ≤ 2 ^ 64 - 1) b births numbers) h)
+    (first_of_births index births counters tuple low high (All-tail (λ (x : Generated). length x.state ≡ index.atoms) b births sizes)
+    (All-tail (λ (x : Generated). x.number ≤ 2 ^ 64 - 1) b births numbers) h)
+    (first_le (marks_for index counters births) (place_of index.atoms tuple))
+  where
+    by : (s a : Bool) → first (marks_at index.atoms b.number (true_tuples index.width b.state)) (place_of index.atoms tuple) ≡ cond a b.number (2 ^ 64 - 1) →
+        first (marks_for index counters births) (place_of index.atoms tuple) ≡ first_number births counters tuple →
+        first (marks_for index counters births) (place_of index.atoms tuple) ≤ 2 ^ 64 - 1 →
+        min (first (cond s (marks_at index.atoms b.number (true_tuples index.width b.state)) []) (place_of index.atoms tuple)) (first (marks_for index counters births) (place_of index.atoms tuple))
+        ≡ cond (s && a) (min b.number (first_number births counters tuple)) (first_number births counters tuple)
+    by true true mine rest most = omega (arith, mine, rest, most)
+    by true false mine rest most = omega (arith, mine, rest, most)
+    by false a mine rest most = omega (arith, rest, most)

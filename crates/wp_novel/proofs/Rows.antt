@@ -1,21 +1,20 @@
 -- First numbers of a few births.
-use Rattle.std.proofs.Common.{◌≡◌, ◌-◌, ◌^◌, true, false, List, [], ◌∷◌, Some, None, refl}
-use Rattle.wp_novel.specs.declared.birth.Pair.{Pair}
-use Rattle.wp_novel.specs.Births.{Birth}
+use Rattle.std.proofs.Common.{◌≡◌, ℕ, ◌-◌, ◌^◌, true, false, List, [], ◌∷◌, Some, None, refl}
+use Rattle.wp_task.specs.Novelty.{Generated}
 use Rattle.wp_novel.specs.StandsFor.{first_number, last_number}
 
-abbrev near : Pair
-near = record { g = 1; r = 0 }
+abbrev near : ℕ × ℕ
+near = (1, 0)
 
-abbrev far : Pair
-far = record { g = 2; r = 0 }
+abbrev far : ℕ × ℕ
+far = (2, 0)
 
 -- the second has all that the first has and atom 2; the third has other counters
-abbrev three : List Birth
+abbrev three : List Generated
 three =
-    record { number = 3; pair = near; state = true ∷ true ∷ false ∷ [] }
-    ∷ record { number = 5; pair = near; state = true ∷ true ∷ true ∷ [] }
-    ∷ record { number = 8; pair = far; state = true ∷ false ∷ true ∷ [] }
+    record { number = 3; counters = near; state = true ∷ true ∷ false ∷ [] }
+    ∷ record { number = 5; counters = near; state = true ∷ true ∷ true ∷ [] }
+    ∷ record { number = 8; counters = far; state = true ∷ false ∷ true ∷ [] }
     ∷ []
 
 the_first_has_it : first_number three near (0 ∷ 1 ∷ []) ≡ 3

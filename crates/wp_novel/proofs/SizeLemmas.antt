@@ -1,12 +1,13 @@
 -- From single atoms and pairs to all tuples of an index.
 use Rattle.std.proofs.Common.{◌≡◌, ◌&&◌, ℕ, zero, suc, ◌+◌, ◌<◌, ◌≤◌, Bool, true, get_or, List, [], ◌∷◌, length, refl, sym, ap, ◌∙◌, subst, inl, inr, ⊎_elim, arith}
-use Rattle.std.specs.Prelude.{slice_index}
 use Rattle.std.specs.List.{All, Contains, list_all}
 use Rattle.std.proofs.lemmas.Bool.{cases_lt, and_parts, and_from}
 use Rattle.std.proofs.lemmas.List.Kept.{AllPairs-from_increasing}
 use Rattle.wp_task.specs.Set.{has, atoms_in, AreAtoms}
 use Rattle.wp_task.proofs.Members.{In, In-at, Contains-from_In}
 use Rattle.wp_tuples.specs.TuplePlaces.{Indexed, place_of, tuples_of}
+use Rattle.wp_arrive.specs.declared.view.Mark.{Mark}
+use Rattle.wp_arrive.specs.FirstArrival.{first}
 use Rattle.wp_novel.specs.Marks.{IsLeastSize}
 use Rattle.wp_novel.proofs.AtomLemmas.{in_atoms, has_atoms}
 use Rattle.wp_novel.proofs.MarkLemmas.{row}
@@ -14,24 +15,24 @@ use Rattle.wp_novel.proofs.TrueTupleLemmas.{and_true, all_of_pair}
 use Rattle.wp_novel.proofs.TupleLemmas.{IsAtom, IsPairOfAtoms, tuple_cases, atom_is_tuple, pair_is_tuple}
 
 -- ---- least sizes
-abbrev IsAtomSize : Indexed → List Bool → ℕ → List ℕ → Type 0
-IsAtomSize index state number words = (p : ℕ) × (p < index.atoms) × (has state p ≡ true) × (number ≤ slice_index words p)
+abbrev IsAtomSize : Indexed → List Bool → ℕ → List Mark → Type 0
+IsAtomSize index state number marks = (p : ℕ) × (p < index.atoms) × (has state p ≡ true) × (number ≤ first marks p)
 
-abbrev IsPairSize : Indexed → List Bool → ℕ → List ℕ → Type 0
-IsPairSize index state number words =
-    (p q : ℕ) × (p < q) × (q < index.atoms) × (has state p ≡ true) × (has state q ≡ true) × (number ≤ slice_index words (row index.atoms q + p))
+abbrev IsPairSize : Indexed → List Bool → ℕ → List Mark → Type 0
+IsPairSize index state number marks =
+    (p q : ℕ) × (p < q) × (q < index.atoms) × (has state p ≡ true) × (has state q ≡ true) × (number ≤ first marks (row index.atoms q + p))
 
-abbrev Attained : Indexed → List Bool → ℕ → List ℕ → ℕ → Type 0
-Attained index state number words w = (tuple : List ℕ) × Contains (tuples_of index) tuple × (list_all (has state) tuple ≡ true) ×
-    (length tuple ≡ w) × (number ≤ slice_index words (place_of index.atoms tuple))
+abbrev Attained : Indexed → List Bool → ℕ → List Mark → ℕ → Type 0
+Attained index state number marks w = (tuple : List ℕ) × Contains (tuples_of index) tuple × (list_all (has state) tuple ≡ true) ×
+    (length tuple ≡ w) × (number ≤ first marks (place_of index.atoms tuple))
 
--- the words of tuples of fewer than w atoms are below the number, where those of atoms and, if need be, those of pairs are
-least : (index : Indexed) (state : List Bool) (number : ℕ) (words : List ℕ) (w : ℕ) → 1 ≤ index.width → index.width ≤ 2 →
-    (1 < w → (p : ℕ) → has state p ≡ true → slice_index words p < number) →
-    (2 < w → index.width ≡ 2 → (p q : ℕ) → p < q → has state p ≡ true → has state q ≡ true → slice_index words (row index.atoms q + p) < number) →
-    (tuple : List ℕ) → Contains (tuples_of index) tuple → list_all (has state) tuple ≡ true → length tuple < w → slice_index words (place_of index.atoms tuple) < number
-least index state number words w low high atoms pairs tuple h all short =
-    let Below : List ℕ → Type 0 = λ (t : List ℕ). slice_index words (place_of index.atoms t) < number in
+-- the first numbers of tuples of fewer than w atoms are below the number, where those of atoms and, if need be, those of pairs are
+least : (index : Indexed) (state : List Bool) (number : ℕ) (marks : List Mark) (w : ℕ) → 1 ≤ index.width → index.width ≤ 2 →
+    (1 < w → (p : ℕ) → has state p ≡ true → first marks p < number) →
+    (2 < w → index.width ≡ 2 → (p q : ℕ) → p < q → has state p ≡ true → has state q ≡ true → first marks (row index.atoms q + p) < number) →
+    (tuple : List ℕ) → Contains (tuples_of index) tuple → list_all (has state) tuple ≡ true → length tuple < w → first marks (place_of index.atoms tuple) < number
+least index state number marks w low high atoms pairs tuple h all short =
+    let Below : List ℕ → Type 0 = λ (t : List ℕ). first marks (place_of index.atoms t) < number in
     ⊎_elim
     (λ (one : IsAtom index.atoms tuple).
     let size : length tuple ≡ 1 = ap (λ (t : List ℕ). length t) one.2 in
@@ -45,22 +46,22 @@ least index state number words w low high atoms pairs tuple h all short =
     subst Below (sym pair.4) (pairs (omega arith) two.0 pair.0 pair.1 pair.2 parts.0 parts.1))
     (tuple_cases index tuple low high h)
 
-pub atom_size : (index : Indexed) (state : List Bool) (number : ℕ) (words : List ℕ) → 1 ≤ index.width → index.width ≤ 2 →
-    IsAtomSize index state number words → IsLeastSize index state number words 1
-atom_size index state number words low high some =
-    let found : Attained index state number words 1 =
+pub atom_size : (index : Indexed) (state : List Bool) (number : ℕ) (marks : List Mark) → 1 ≤ index.width → index.width ≤ 2 →
+    IsAtomSize index state number marks → IsLeastSize index state number marks 1
+atom_size index state number marks low high some =
+    let found : Attained index state number marks 1 =
     (some.0 ∷ [], atom_is_tuple index some.0 low high some.1, and_true (has state some.0) ∙ some.2, refl, some.3) in
     record {
       range = (omega arith, omega arith);
-      least = least index state number words 1 low high (λ more. absurd (omega arith)) (λ more. absurd (omega arith));
+      least = least index state number marks 1 low high (λ more. absurd (omega arith)) (λ more. absurd (omega arith));
       attained = inr found;
     }
 
-pub pair_size : (index : Indexed) (state : List Bool) (number : ℕ) (words : List ℕ) → index.width ≡ 2 →
-    ((p : ℕ) → has state p ≡ true → slice_index words p < number) →
-    IsPairSize index state number words → IsLeastSize index state number words 2
-pair_size index state number words two atoms some =
-    let found : Attained index state number words 2 = (
+pub pair_size : (index : Indexed) (state : List Bool) (number : ℕ) (marks : List Mark) → index.width ≡ 2 →
+    ((p : ℕ) → has state p ≡ true → first marks p < number) →
+    IsPairSize index state number marks → IsLeastSize index state number marks 2
+pair_size index state number marks two atoms some =
+    let found : Attained index state number marks 2 = (
       some.0 ∷ some.1 ∷ [],
       pair_is_tuple index some.0 some.1 two some.2 some.3,
       all_of_pair state some.0 some.1 ∙ and_from (has state some.0) (has state some.1) some.4 some.5,
@@ -69,22 +70,22 @@ pair_size index state number words two atoms some =
     ) in
     record {
       range = (omega arith, omega arith);
-      least = least index state number words 2 (omega arith) (omega arith) (λ more. atoms) (λ more. absurd (omega arith));
+      least = least index state number marks 2 (omega arith) (omega arith) (λ more. atoms) (λ more. absurd (omega arith));
       attained = inr found;
     }
 
-pub no_size : (index : Indexed) (state : List Bool) (number : ℕ) (words : List ℕ) → 1 ≤ index.width → index.width ≤ 2 →
-    ((p : ℕ) → has state p ≡ true → slice_index words p < number) →
-    (index.width ≡ 2 → (p q : ℕ) → p < q → has state p ≡ true → has state q ≡ true → slice_index words (row index.atoms q + p) < number) →
-    IsLeastSize index state number words (index.width + 1)
-no_size index state number words low high atoms pairs = record {
+pub no_size : (index : Indexed) (state : List Bool) (number : ℕ) (marks : List Mark) → 1 ≤ index.width → index.width ≤ 2 →
+    ((p : ℕ) → has state p ≡ true → first marks p < number) →
+    (index.width ≡ 2 → (p q : ℕ) → p < q → has state p ≡ true → has state q ≡ true → first marks (row index.atoms q + p) < number) →
+    IsLeastSize index state number marks (index.width + 1)
+no_size index state number marks low high atoms pairs = record {
   range = (omega arith, omega arith);
-  least = least index state number words (index.width + 1) low high (λ more. atoms) (λ more. pairs);
+  least = least index state number marks (index.width + 1) low high (λ more. atoms) (λ more. pairs);
   attained = inl refl;
 }
 
 -- ---- by the list of the atoms
-module _ (index : Indexed) (state : List Bool) (number : ℕ) (words atoms : List ℕ) (are : AreAtoms index.atoms atoms) (listed : atoms ≡ atoms_in state) where
+module _ (index : Indexed) (state : List Bool) (number : ℕ) (marks : List Mark) (atoms : List ℕ) (are : AreAtoms index.atoms atoms) (listed : atoms ≡ atoms_in state) where
   place_in : (p : ℕ) → has state p ≡ true → (k : ℕ) × (k < length atoms) × (get_or atoms k 0 ≡ p)
   place_in p passes =
       let there : Contains atoms p = Contains-from_In p atoms (subst (In p) (sym listed) (in_atoms state p passes)) in
@@ -104,23 +105,23 @@ module _ (index : Indexed) (state : List Bool) (number : ℕ) (words atoms : Lis
       same (x ∷ xs) zero h = refl
       same (x ∷ xs) (suc k) h = same xs k (omega arith)
 
-  pub atoms_early : All (λ p. slice_index words (0 + p) < number) atoms → (p : ℕ) → has state p ≡ true → slice_index words p < number
+  pub atoms_early : All (λ p. first marks (0 + p) < number) atoms → (p : ℕ) → has state p ≡ true → first marks p < number
   atoms_early all p passes =
       let found = place_in p passes in
-      let early : slice_index words (0 + get_or atoms found.0 0) < number = all found.0 0 found.1 in
+      let early : first marks (0 + get_or atoms found.0 0) < number = all found.0 0 found.1 in
       let same : 0 + get_or atoms found.0 0 ≡ p = omega (arith, found.2) in
-      subst (λ (q : ℕ). slice_index words q < number) same early
+      subst (λ (q : ℕ). first marks q < number) same early
 
-  pub atom_late : (k : ℕ) → k < length atoms → number ≤ slice_index words (0 + get_or atoms k 0) → IsAtomSize index state number words
+  pub atom_late : (k : ℕ) → k < length atoms → number ≤ first marks (0 + get_or atoms k 0) → IsAtomSize index state number marks
   atom_late k within late =
       let p : ℕ = get_or atoms k 0 in
       let same : 0 + p ≡ p = omega arith in
       let below : p < index.atoms = are.below k 0 within in
-      let there : number ≤ slice_index words p = subst (λ (q : ℕ). number ≤ slice_index words q) same late in
-      let found : IsAtomSize index state number words = (p, below, has_at k within, there) in found
+      let there : number ≤ first marks p = subst (λ (q : ℕ). number ≤ first marks q) same late in
+      let found : IsAtomSize index state number marks = (p, below, has_at k within, there) in found
 
-  pub pairs_early : ((i j : ℕ) → i < j → j < length atoms → slice_index words (row index.atoms (get_or atoms j 0) + get_or atoms i 0) < number) →
-      (p q : ℕ) → p < q → has state p ≡ true → has state q ≡ true → slice_index words (row index.atoms q + p) < number
+  pub pairs_early : ((i j : ℕ) → i < j → j < length atoms → first marks (row index.atoms (get_or atoms j 0) + get_or atoms i 0) < number) →
+      (p q : ℕ) → p < q → has state p ≡ true → has state q ≡ true → first marks (row index.atoms q + p) < number
   pairs_early all p q less one other =
       let at_p = place_in p one in
       let at_q = place_in q other in
@@ -137,13 +138,13 @@ module _ (index : Indexed) (state : List Bool) (number : ℕ) (words atoms : Lis
       (cases_lt at_q.0 at_p.0))
       (cases_lt at_p.0 at_q.0) in
       let early = all at_p.0 at_q.0 order at_q.1 in
-      subst (λ (k : ℕ). slice_index words (row index.atoms q + k) < number) at_p.2
-      (subst (λ (k : ℕ). slice_index words (row index.atoms k + get_or atoms at_p.0 0) < number) at_q.2 early)
+      subst (λ (k : ℕ). first marks (row index.atoms q + k) < number) at_p.2
+      (subst (λ (k : ℕ). first marks (row index.atoms k + get_or atoms at_p.0 0) < number) at_q.2 early)
 
-  pub pair_late : (i j : ℕ) → i < j → j < length atoms → number ≤ slice_index words (row index.atoms (get_or atoms j 0) + get_or atoms i 0) →
-      IsPairSize index state number words
+  pub pair_late : (i j : ℕ) → i < j → j < length atoms → number ≤ first marks (row index.atoms (get_or atoms j 0) + get_or atoms i 0) →
+      IsPairSize index state number marks
   pair_late i j less within late =
       let rise : get_or atoms i 0 < get_or atoms j 0 = AllPairs-from_increasing atoms are.rising i j 0 less within in
       let below : get_or atoms j 0 < index.atoms = are.below j 0 within in
-      let found : IsPairSize index state number words =
+      let found : IsPairSize index state number marks =
       (get_or atoms i 0, get_or atoms j 0, rise, below, has_at i (omega arith), has_at j within, late) in found

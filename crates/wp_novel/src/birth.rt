@@ -1,6 +1,7 @@
 //! Births: the nodes that are entered into novelty tables.
 ghost use Rattle.std.specs.Prelude.{◌≡◌, IfOk};
 ghost use Rattle.wp_task.specs.Set.{atoms_in};
+ghost use Rattle.wp_novel.specs.NoveltyTables.{counters_of};
 
 use crate::walk::next_below;
 use std::alloc::{AllocError, Global};
@@ -27,18 +28,19 @@ pub struct Birth {
 impl Model for Birth {
     ghost use Rattle.std.specs.Prelude.{◌≡◌};
     ghost use Rattle.wp_task.specs.Set.{atoms_in};
-    ghost use Rattle.wp_novel.specs.Births.{Birth};
+    ghost use Rattle.wp_task.specs.Novelty.{Generated};
+    ghost use Rattle.wp_novel.specs.NoveltyTables.{counters_of};
 
-    ghost Value = { Birth };
+    ghost Value = { Generated };
 
-    ghost view = { λ b. record { number = b.number; pair = b.pair; state = b.state } };
+    ghost view = { λ b. record { number = b.number; counters = counters_of b.pair; state = b.state } };
 
     ghost invariant = { λ b. b.atoms.items ≡ atoms_in b.state };
 }
 
 impl Birth {
     pub fn of(alloc: Global, number: u64, pair: Pair, state: State) -> Result<Birth, AllocError>
-        ensures { IfOk result (λ birth. birth ≡ record { number = number; pair = pair; state = state }) }
+        ensures { IfOk result (λ birth. birth ≡ record { number = number; counters = counters_of pair; state = state }) }
     {
         let atoms = atoms_of(alloc, &state)?;
         Ok(Birth {
@@ -56,7 +58,7 @@ impl Birth {
     }
 
     pub fn pair(&self) -> Pair
-        ensures { result ≡ self.now.pair }
+        ensures { counters_of result ≡ self.now.counters }
     {
         self.pair
     }
@@ -106,9 +108,9 @@ pub struct Births {
 
 impl Model for Births {
     ghost use Rattle.std.specs.Prelude.{List};
-    ghost use Rattle.wp_novel.specs.Births.{Birth};
+    ghost use Rattle.wp_task.specs.Novelty.{Generated};
 
-    ghost Value = { List Birth };
+    ghost Value = { List Generated };
 
     ghost view = { λ b. b.items.items };
 }

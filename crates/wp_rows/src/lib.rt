@@ -1,4 +1,4 @@
-//! Worked cases of the top call over files and an output in memory, and of the parts of the search: a crate of tests.
+//! Worked cases of the top call over files and an output in memory: a crate of tests.
 //!
 //! Each case is one that no stored run of the program can have, as a file that cannot be read or an output that takes a few
 //! bytes a call. Their answers are stated here by hand, never taken from the program.
@@ -7,6 +7,6 @@
 #[cfg(test)]
 mod check;
 #[cfg(test)]
-mod parts;
-#[cfg(test)]
 mod plan;
+#[cfg(test)]
+mod workers;

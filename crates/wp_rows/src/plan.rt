@@ -1,26 +1,19 @@
-//! `plan` and `ground` over a chain of two actions.
+//! `plan` over a chain of two actions, and outputs that take a few bytes a call.
+
+ghost use Rattle.std.specs.Prelude.{◌≤◌};
 
 use crate::check::{shelf, sink};
 use std::alloc::{AllocError, Global};
+use std::process::Abort;
 use std::test::Fail;
-use wp_app::run_words;
-use wp_edge::OpenGate;
+use std::thread::Threads;
+use wp_app::{Status, run_words};
+use wp_edge::{MemShelf, MemSink, OpenGate};
 
 const PLANNED: &str =
     "(s1)\n(s2)\n; found steps 2 expanded 2 numbered 3 kept 3 pruned 0 repeats 1 pairs 3\n";
 
-const TASK: &str = "atoms 3
-acts 2
-atom 0 (a)
-atom 1 (b)
-atom 2 (c)
-act 0 (s1) pre 0 add 1 del
-act 1 (s2) pre 1 add 2 del 0
-init 0
-goal 2
-";
-
-fn words(alloc: Global, line: &[&str]) -> Result<Vec<String>, AllocError> {
+pub(crate) fn words(alloc: Global, line: &[&str]) -> Result<Vec<String>, AllocError> {
     let mut words = Vec::new(alloc);
     for word in line {
         words.push(String::from_str(alloc, word)?)?;
@@ -28,68 +21,49 @@ fn words(alloc: Global, line: &[&str]) -> Result<Vec<String>, AllocError> {
     Ok(words)
 }
 
-#[test]
-fn a_plan_is_found_and_printed(rt: HostRuntime) -> Result<(), Fail> {
-    let alloc = rt.alloc();
-    let words = words(
-        alloc,
-        &["plan", "d", "p", "--search", "kbfws", "--width", "1"],
-    )?;
-    let mut shelf = shelf(alloc, "", &[])?;
-    let mut sink = sink(alloc, 7, &[])?;
-    let status = run_words(
-        &rt,
+/// What the words of a line answer.
+pub(crate) fn answered<R: Threads + Sync>(
+    rt: &R,
+    alloc: Global,
+    line: &[&str],
+    shelf: &mut MemShelf,
+    sink: &mut MemSink,
+) -> Result<Status, AllocError> {
+    let words = words(alloc, line)?;
+    Ok(run_words(
+        rt,
         alloc,
         words.as_slice(),
-        &mut shelf,
-        &mut sink,
+        shelf,
+        sink,
         &OpenGate,
         Vec::new(alloc),
-    );
-    assert_eq!(rt; status.code(), 0);
-    assert_eq!(rt; sink.held(), PLANNED.as_bytes());
+    ))
+}
+
+/// A plan goes out in pieces of `most` bytes, of which those of these numbers are not taken.
+fn check_plan<R: Abort + Threads + Sync>(
+    rt: &R,
+    alloc: Global,
+    most: u64,
+    fails: &[u64],
+    status: u8,
+    held: &str,
+) -> Result<(), Fail>
+    requires { 1 ≤ most }
+{
+    let line = ["plan", "d", "p", "--search", "kbfws", "--width", "1"];
+    let mut shelf = shelf(alloc, "", &[])?;
+    let mut sink = sink(alloc, most, fails)?;
+    let answered = answered(rt, alloc, &line, &mut shelf, &mut sink)?;
+    assert_eq!(rt; answered.code(), status);
+    assert_eq!(rt; sink.held(), held.as_bytes());
     Ok(())
 }
 
 #[test]
-fn a_cut_plan_is_a_front_of_its_text(rt: HostRuntime) -> Result<(), Fail> {
+fn a_plan_is_printed_as_far_as_it_is_taken(rt: HostRuntime) -> Result<(), Fail> {
     let alloc = rt.alloc();
-    let words = words(
-        alloc,
-        &["plan", "d", "p", "--search", "kbfws", "--width", "1"],
-    )?;
-    let mut shelf = shelf(alloc, "", &[])?;
-    let mut sink = sink(alloc, 5, &[3])?;
-    let status = run_words(
-        &rt,
-        alloc,
-        words.as_slice(),
-        &mut shelf,
-        &mut sink,
-        &OpenGate,
-        Vec::new(alloc),
-    );
-    assert_eq!(rt; status.code(), 21);
-    assert_eq!(rt; sink.held(), b"(s1)\n(s2)\n".as_slice());
-    Ok(())
-}
-
-#[test]
-fn a_task_is_printed(rt: HostRuntime) -> Result<(), Fail> {
-    let alloc = rt.alloc();
-    let words = words(alloc, &["ground", "d", "p"])?;
-    let mut shelf = shelf(alloc, "", &[])?;
-    let mut sink = sink(alloc, 64, &[])?;
-    let status = run_words(
-        &rt,
-        alloc,
-        words.as_slice(),
-        &mut shelf,
-        &mut sink,
-        &OpenGate,
-        Vec::new(alloc),
-    );
-    assert_eq!(rt; status.code(), 0);
-    assert_eq!(rt; sink.held(), TASK.as_bytes());
-    Ok(())
+    check_plan(&rt, alloc, 7, &[], 0, PLANNED)?;
+    check_plan(&rt, alloc, 5, &[3], 21, "(s1)\n(s2)\n")
 }

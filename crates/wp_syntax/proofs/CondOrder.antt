@@ -1,11 +1,8 @@
 -- The faults of conditions, goals, effects and facts stand in order.
 use Rattle.std.proofs.Common.{ℕ, suc, ◌*◌, ◌≤◌, ◌<◌, Bool, true, false, List, [], ◌∷◌, ◌++◌, arith, not}
-use Rattle.std.specs.Prelude.{codes}
-use Rattle.std.specs.Str.{bytes_eq}
 use Rattle.wp_lex.specs.Trees.{Tree, Trees, Leaf, Branch, End, Then}
 use Rattle.wp_lex.specs.Rising.{TreeRises, Rises}
-use Rattle.wp_syntax.specs.declared.error.PddlKind.TheVariants.{Shape, Unsupported}
-use Rattle.wp_syntax.specs.declared.records.Name.{Name}
+use Rattle.wp_syntax.specs.declared.error.ReadKind.TheVariants.{Shape, Unsupported}
 use Rattle.wp_syntax.specs.declared.records.AtomText.{AtomText}
 use Rattle.wp_syntax.specs.declared.records.Cond.{Cond}
 use Rattle.wp_syntax.specs.declared.records.Effect.{Effect}
@@ -14,10 +11,10 @@ use Rattle.wp_syntax.specs.declared.word.Head.TheVariants as heads
 use Rattle.wp_syntax.specs.Word.{is_term}
 use Rattle.wp_syntax.specs.Heads.{head_of}
 use Rattle.wp_syntax.specs.Reading.{Wrong, Read, fine, wrong, wrong_if, ◌>>=◌, ◌>>◌, each}
-use Rattle.wp_syntax.specs.Grammar.{term_of, atom_of, atom_cond_of, side_of, sides_of, equality_of, negation_of, plain_cond_of, cond_of, conds_of, plain_goal_of, goal_of, goals_of}
-use Rattle.wp_syntax.specs.Effects.{no_atom, negated_of, plain_effect_of, effect_of, effects_of, is_timed, fact_from, stated_of, headed_fact_of, fact_of}
+use Rattle.wp_syntax.specs.Grammar.{term_of, atom_of, atom_cond_of, side_of, sides_of, equality_of, negation_of, plain_cond_of, cond_of, plain_goal_of, goal_of}
+use Rattle.wp_syntax.specs.Effects.{no_atom, negated_of, plain_effect_of, effect_of, is_timed, fact_from, stated_of, headed_fact_of, fact_of}
 use Rattle.wp_syntax.specs.Walk.{key, Ordered}
-use Rattle.wp_syntax.proofs.Order.{lower, both, higher, ended, perhaps, told, rises_le, tree_lt, each_walks}
+use Rattle.wp_syntax.proofs.Order.{lower, both, higher, ended, perhaps, told, rises_le, tree_lt, each_walks, conjunction_walks}
 
 -- one fault at a place
 pub alone : (fault : Wrong) (low high : ℕ) → low ≤ key fault → key fault ≤ high → Ordered low (fault ∷ []) high
@@ -114,28 +111,8 @@ plain_cond_walks at head i rest low high a b r =
       | _ ↦ unsupported
     ]
 
-mutual
-  pub cond_walks : (tree : Tree) (low high : ℕ) → TreeRises tree low high → Ordered (5 * low) (cond_of tree).faults (5 * high)
-  cond_walks (Leaf text at) low high (l, h) = (omega arith, omega arith)
-  cond_walks (Branch at End) low high (l, r) = omega arith
-  cond_walks (Branch at (Then (Branch i trees) rest)) low high (l, r) =
-      let inside : suc at ≤ high = rises_le (Then (Branch i trees) rest) (suc at) high r in (omega arith, omega arith)
-  cond_walks (Branch at (Then (Leaf head i) rest)) low high (l, (middle, (m, h), r)) =
-      let conjunction : Ordered (5 * low) (conds_of rest).faults (5 * high) =
-      lower (5 * low) (5 * middle) (5 * high) (conds_of rest).faults (omega arith) (conds_walk rest middle high r) in
-      let plain : Ordered (5 * low) (plain_cond_of at head i rest).faults (5 * high) =
-      lower (5 * low) (5 * at) (5 * high) (plain_cond_of at head i rest).faults (omega arith)
-      (plain_cond_walks at head i rest middle high m h r) in
-      elim (bytes_eq head (codes "and")) as (λ k. let r : Read (List Cond) = elim k [
-        | true ↦ conds_of rest
-        | false ↦ plain_cond_of at head i rest
-      ] in Ordered (5 * low) r.faults (5 * high)) [ true ↦ conjunction | false ↦ plain ]
-
-  pub conds_walk : (trees : Trees) (low high : ℕ) → Rises trees low high → Ordered (5 * low) (conds_of trees).faults (5 * high)
-  conds_walk End low high r = omega arith
-  conds_walk (Then tree rest) low high (middle, t, r) =
-      both (5 * low) (5 * middle) (5 * high) (cond_of tree).faults ((conds_of rest).faults ++ []) (cond_walks tree low middle t)
-      (ended (5 * middle) (5 * high) (conds_of rest).faults (conds_walk rest middle high r))
+pub cond_walks : (tree : Tree) (low high : ℕ) → TreeRises tree low high → Ordered (5 * low) (cond_of tree).faults (5 * high)
+cond_walks tree low high r = conjunction_walks plain_cond_of plain_cond_walks tree low high r
 
 plain_goal_walks : (at : ℕ) (head : List ℕ) (i : ℕ) (rest : Trees) (low high : ℕ) → at < i → i < low → Rises rest low high
     → Ordered (5 * at) (plain_goal_of at head i rest).faults (5 * high)
@@ -155,28 +132,8 @@ plain_goal_walks at head i rest low high a b r =
       | _ ↦ unsupported
     ]
 
-mutual
-  pub goal_walks : (tree : Tree) (low high : ℕ) → TreeRises tree low high → Ordered (5 * low) (goal_of tree).faults (5 * high)
-  goal_walks (Leaf text at) low high (l, h) = (omega arith, omega arith)
-  goal_walks (Branch at End) low high (l, r) = omega arith
-  goal_walks (Branch at (Then (Branch i trees) rest)) low high (l, r) =
-      let inside : suc at ≤ high = rises_le (Then (Branch i trees) rest) (suc at) high r in (omega arith, omega arith)
-  goal_walks (Branch at (Then (Leaf head i) rest)) low high (l, (middle, (m, h), r)) =
-      let conjunction : Ordered (5 * low) (goals_of rest).faults (5 * high) =
-      lower (5 * low) (5 * middle) (5 * high) (goals_of rest).faults (omega arith) (goals_walk rest middle high r) in
-      let plain : Ordered (5 * low) (plain_goal_of at head i rest).faults (5 * high) =
-      lower (5 * low) (5 * at) (5 * high) (plain_goal_of at head i rest).faults (omega arith)
-      (plain_goal_walks at head i rest middle high m h r) in
-      elim (bytes_eq head (codes "and")) as (λ k. let r : Read (List AtomText) = elim k [
-        | true ↦ goals_of rest
-        | false ↦ plain_goal_of at head i rest
-      ] in Ordered (5 * low) r.faults (5 * high)) [ true ↦ conjunction | false ↦ plain ]
-
-  pub goals_walk : (trees : Trees) (low high : ℕ) → Rises trees low high → Ordered (5 * low) (goals_of trees).faults (5 * high)
-  goals_walk End low high r = omega arith
-  goals_walk (Then tree rest) low high (middle, t, r) =
-      both (5 * low) (5 * middle) (5 * high) (goal_of tree).faults ((goals_of rest).faults ++ []) (goal_walks tree low middle t)
-      (ended (5 * middle) (5 * high) (goals_of rest).faults (goals_walk rest middle high r))
+pub goal_walks : (tree : Tree) (low high : ℕ) → TreeRises tree low high → Ordered (5 * low) (goal_of tree).faults (5 * high)
+goal_walks tree low high r = conjunction_walks plain_goal_of plain_goal_walks tree low high r
 
 negated_walks : (word : List ℕ) (at : ℕ) (trees : Trees) (low high : ℕ) → at < low → Rises trees low high
     → Ordered (5 * at) (negated_of word at trees).faults (5 * high)
@@ -221,28 +178,8 @@ plain_effect_walks at head i rest low high a b r =
       | _ ↦ unsupported
     ]
 
-mutual
-  pub effect_walks : (tree : Tree) (low high : ℕ) → TreeRises tree low high → Ordered (5 * low) (effect_of tree).faults (5 * high)
-  effect_walks (Leaf text at) low high (l, h) = (omega arith, omega arith)
-  effect_walks (Branch at End) low high (l, r) = omega arith
-  effect_walks (Branch at (Then (Branch i trees) rest)) low high (l, r) =
-      let inside : suc at ≤ high = rises_le (Then (Branch i trees) rest) (suc at) high r in (omega arith, omega arith)
-  effect_walks (Branch at (Then (Leaf head i) rest)) low high (l, (middle, (m, h), r)) =
-      let conjunction : Ordered (5 * low) (effects_of rest).faults (5 * high) =
-      lower (5 * low) (5 * middle) (5 * high) (effects_of rest).faults (omega arith) (effects_walk rest middle high r) in
-      let plain : Ordered (5 * low) (plain_effect_of at head i rest).faults (5 * high) =
-      lower (5 * low) (5 * at) (5 * high) (plain_effect_of at head i rest).faults (omega arith)
-      (plain_effect_walks at head i rest middle high m h r) in
-      elim (bytes_eq head (codes "and")) as (λ k. let r : Read (List Effect) = elim k [
-        | true ↦ effects_of rest
-        | false ↦ plain_effect_of at head i rest
-      ] in Ordered (5 * low) r.faults (5 * high)) [ true ↦ conjunction | false ↦ plain ]
-
-  pub effects_walk : (trees : Trees) (low high : ℕ) → Rises trees low high → Ordered (5 * low) (effects_of trees).faults (5 * high)
-  effects_walk End low high r = omega arith
-  effects_walk (Then tree rest) low high (middle, t, r) =
-      both (5 * low) (5 * middle) (5 * high) (effect_of tree).faults ((effects_of rest).faults ++ []) (effect_walks tree low middle t)
-      (ended (5 * middle) (5 * high) (effects_of rest).faults (effects_walk rest middle high r))
+pub effect_walks : (tree : Tree) (low high : ℕ) → TreeRises tree low high → Ordered (5 * low) (effect_of tree).faults (5 * high)
+effect_walks tree low high r = conjunction_walks plain_effect_of plain_effect_walks tree low high r
 
 stated_walks : (head : List ℕ) (i : ℕ) (rest : Trees) (low high : ℕ) → i < low → Rises rest low high
     → Ordered (5 * i) (stated_of head i rest).faults (5 * high)

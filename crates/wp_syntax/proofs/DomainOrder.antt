@@ -4,7 +4,7 @@ use Rattle.std.specs.Prelude.{codes, is_some, nat_le, ◌||◌}
 use Rattle.std.specs.Str.{bytes_eq}
 use Rattle.wp_lex.specs.Trees.{Tree, Trees, Leaf, Branch, End, Then}
 use Rattle.wp_lex.specs.Rising.{TreeRises, Rises}
-use Rattle.wp_syntax.specs.declared.error.PddlKind.TheVariants.{Shape, Unsupported, Reserved, Duplicate, TooMany}
+use Rattle.wp_syntax.specs.declared.error.ReadKind.TheVariants.{Shape, Unsupported, Reserved, Duplicate, TooMany}
 use Rattle.wp_syntax.specs.declared.records.Name.{Name}
 use Rattle.wp_syntax.specs.declared.records.Typed.{Typed}
 use Rattle.wp_syntax.specs.declared.records.PredText.{PredText}
@@ -25,6 +25,7 @@ use Rattle.wp_syntax.specs.Predicates.{is_declared, declared_of, declaration_of,
 use Rattle.wp_syntax.specs.Actions.{no_parts, part_of, bare_part_of, valued_of, parts_of, is_defined, defined_of, action_of}
 use Rattle.wp_syntax.specs.Outline.{end_of, name_of, only_name_of, title_of, flag_of, flags_of}
 use Rattle.wp_syntax.specs.Domains.{no_sections, headed_section_of, section_of, sections_of, domain_of}
+use Rattle.wp_syntax.specs.Named.{most_declared, most_params}
 use Rattle.wp_syntax.specs.Walk.{Ordered}
 use Rattle.wp_syntax.proofs.Order.{lower, both, higher, ended, perhaps, rises_le, each_walks}
 use Rattle.wp_syntax.proofs.CondOrder.{cond_walks, effect_walks}
@@ -36,7 +37,7 @@ word_walks roles.Names done group text at low high l h =
 word_walks roles.Predicate done group text at low high l h =
     both (5 * low) (5 * at) (5 * high) (wrong_if (not (is_variable text)) Shape at).faults (limit_of done group at).faults
     (perhaps (not (is_variable text)) Shape at (5 * low) (5 * at) (omega arith) (omega arith))
-    (perhaps (nat_le 32 (length done + length group)) (TooMany 32) at (5 * at) (5 * high) (omega arith) (omega arith))
+    (perhaps (nat_le most_params (length done + length group)) (TooMany most_params) at (5 * at) (5 * high) (omega arith) (omega arith))
 word_walks roles.Action done group text at low high l h =
     both (5 * low) (5 * at) (5 * high) (wrong_if (not (is_variable text)) Shape at).faults
     ((wrong_if (is_typed text done || is_named text group) Duplicate at).faults ++ (limit_of done group at).faults)
@@ -44,7 +45,7 @@ word_walks roles.Action done group text at low high l h =
     (both (5 * at) (5 * at + 3) (5 * high) (wrong_if (is_typed text done || is_named text group) Duplicate at).faults
     (limit_of done group at).faults
     (perhaps (is_typed text done || is_named text group) Duplicate at (5 * at) (5 * at + 3) (omega arith) (omega arith))
-    (perhaps (nat_le 32 (length done + length group)) (TooMany 32) at (5 * at + 3) (5 * high) (omega arith) (omega arith)))
+    (perhaps (nat_le most_params (length done + length group)) (TooMany most_params) at (5 * at + 3) (5 * high) (omega arith) (omega arith)))
 
 kind_walks : (tree : Tree) (low high : ℕ) → TreeRises tree low high → Ordered (5 * low) (kind_of tree).faults (5 * high)
 kind_walks (Leaf text at) low high (l, h) =
@@ -112,12 +113,12 @@ declared_walks : (before : List PredText) (text : List ℕ) (at low high : ℕ) 
 declared_walks before text at low high l h =
     both (5 * low) (5 * at + 2) (5 * high) (wrong_if (is_reserved text) Reserved at).faults
     ((wrong_if (is_declared text before) Duplicate at).faults
-    ++ (wrong_if (nat_le 4096 (length before)) (TooMany 4096) at).faults)
+    ++ (wrong_if (nat_le most_declared (length before)) (TooMany most_declared) at).faults)
     (perhaps (is_reserved text) Reserved at (5 * low) (5 * at + 2) (omega arith) (omega arith))
     (both (5 * at + 2) (5 * at + 3) (5 * high) (wrong_if (is_declared text before) Duplicate at).faults
-    (wrong_if (nat_le 4096 (length before)) (TooMany 4096) at).faults
+    (wrong_if (nat_le most_declared (length before)) (TooMany most_declared) at).faults
     (perhaps (is_declared text before) Duplicate at (5 * at + 2) (5 * at + 3) (omega arith) (omega arith))
-    (perhaps (nat_le 4096 (length before)) (TooMany 4096) at (5 * at + 3) (5 * high) (omega arith) (omega arith)))
+    (perhaps (nat_le most_declared (length before)) (TooMany most_declared) at (5 * at + 3) (5 * high) (omega arith) (omega arith)))
 
 pred_walks : (before : List PredText) (tree : Tree) (low high : ℕ) → TreeRises tree low high
     → Ordered (5 * low) (pred_of before tree).faults (5 * high)
@@ -218,12 +219,12 @@ defined_walks : (before : List ActionText) (text : List ℕ) (at low high : ℕ)
 defined_walks before text at low high l h =
     both (5 * low) (5 * at) (5 * high) (wrong_if (not (is_name text)) Shape at).faults
     ((wrong_if (is_defined text before) Duplicate at).faults
-    ++ (wrong_if (nat_le 4096 (length before)) (TooMany 4096) at).faults)
+    ++ (wrong_if (nat_le most_declared (length before)) (TooMany most_declared) at).faults)
     (perhaps (not (is_name text)) Shape at (5 * low) (5 * at) (omega arith) (omega arith))
     (both (5 * at) (5 * at + 3) (5 * high) (wrong_if (is_defined text before) Duplicate at).faults
-    (wrong_if (nat_le 4096 (length before)) (TooMany 4096) at).faults
+    (wrong_if (nat_le most_declared (length before)) (TooMany most_declared) at).faults
     (perhaps (is_defined text before) Duplicate at (5 * at) (5 * at + 3) (omega arith) (omega arith))
-    (perhaps (nat_le 4096 (length before)) (TooMany 4096) at (5 * at + 3) (5 * high) (omega arith) (omega arith)))
+    (perhaps (nat_le most_declared (length before)) (TooMany most_declared) at (5 * at + 3) (5 * high) (omega arith) (omega arith)))
 
 action_walks : (before : List ActionText) (at : ℕ) (trees : Trees) (low high : ℕ) → at < low → Rises trees low high
     → Ordered (5 * at) (action_of before at trees).faults (5 * high)

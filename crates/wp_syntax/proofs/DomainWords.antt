@@ -1,5 +1,5 @@
 -- The names that a domain without a fault declares are words, and those of its actions differ.
-use Rattle.std.proofs.Common.{◌≡◌, ℕ, Bool, true, false, not, List, [], ◌∷◌, ◌++◌, Some, map, refl, sym, ap, subst, ◌∙◌}
+use Rattle.std.proofs.Common.{◌≡◌, ℕ, true, false, not, List, [], ◌∷◌, ◌++◌, Some, map, refl, sym, ap, subst, ◌∙◌}
 use Rattle.std.specs.Prelude.{All, codes, unwrap_or, is_some, ◌||◌}
 use Rattle.std.specs.List.{IsDistinct, list_any}
 use Rattle.std.specs.Str.{bytes_eq}
@@ -8,8 +8,7 @@ use Rattle.std.proofs.lemmas.List.Elements.{All-nil, All-cons, All-push, All-app
 use Rattle.std.proofs.lemmas.Map.Keys.{IsDistinct-push}
 use Rattle.wp_lex.specs.Trees.{Tree, Trees, Leaf, Branch, End, Then}
 use Rattle.wp_lex.specs.Leaves.{IsOfWords, AreOfWords}
-use Rattle.wp_syntax.specs.declared.error.PddlKind.{PddlKind}
-use Rattle.wp_syntax.specs.declared.error.PddlKind.TheVariants.{Shape, Unsupported, Duplicate}
+use Rattle.wp_syntax.specs.declared.error.ReadKind.TheVariants.{Shape, Unsupported, Duplicate}
 use Rattle.wp_syntax.specs.declared.records.PredText.{PredText}
 use Rattle.wp_syntax.specs.declared.records.ActionText.{ActionText}
 use Rattle.wp_syntax.specs.declared.records.Domain.{Domain}
@@ -18,30 +17,19 @@ use Rattle.wp_syntax.specs.declared.typing.Role.TheVariants as roles
 use Rattle.wp_syntax.specs.declared.word.SectionHead.TheVariants as section_heads
 use Rattle.wp_syntax.specs.Word.{is_name}
 use Rattle.wp_syntax.specs.Heads.{section_head_of}
-use Rattle.wp_syntax.specs.Reading.{Wrong, Read, fine, wrong, wrong_if, ◌>>=◌, ◌>>◌}
+use Rattle.wp_syntax.specs.Reading.{Read, fine, wrong, wrong_if, ◌>>=◌, ◌>>◌}
 use Rattle.wp_syntax.specs.Typing.{typed_of}
 use Rattle.wp_syntax.specs.Predicates.{pred_of, preds_of, declaration_of}
 use Rattle.wp_syntax.specs.Actions.{is_defined, defined_of, action_of}
 use Rattle.wp_syntax.specs.Outline.{outline_of, title_of, flags_of}
 use Rattle.wp_syntax.specs.Domains.{no_sections, headed_section_of, section_of, sections_of, domain_of}
 use Rattle.wp_syntax.specs.Laws.{IsWorded, IsTypedByWords, IsNamedDomain}
+use Rattle.wp_syntax.proofs.FaultLemmas.{none_before, none_behind, not_faulty}
 use Rattle.wp_syntax.proofs.TypedWords.{list_words}
 
 -- what is read has it, where there is no fault
 abbrev pub Holds : {A : Type 0} → (A → Type 0) → Read A → Type 0
 Holds P read = read.faults ≡ [] → P read.value
-
-pub none_before : (xs ys : List Wrong) → xs ++ ys ≡ [] → xs ≡ []
-none_before [] ys e = refl
-none_before (x ∷ xs) ys e = cc
-
-pub none_behind : (xs ys : List Wrong) → xs ++ ys ≡ [] → ys ≡ []
-none_behind [] ys e = e
-none_behind (x ∷ xs) ys e = cc
-
-not_wrong : (found : Bool) (kind : PddlKind) (at : ℕ) → (wrong_if found kind at).faults ≡ [] → found ≡ false
-not_wrong true kind at e = cc
-not_wrong false kind at e = refl
 
 -- predicates
 abbrev IsWordedPred : PredText → Type 0
@@ -90,7 +78,7 @@ action_words before at (Then (Leaf text i) rest) (word, words) none =
     let duplicate : (wrong_if (is_defined text before) Duplicate i).faults ≡ [] =
     none_before (wrong_if (is_defined text before) Duplicate i).faults _
     (none_behind (wrong_if (not (is_name text)) Shape i).faults _ defined) in
-    record { word = word; unused = not_wrong (is_defined text before) Duplicate i duplicate }
+    record { word = word; unused = not_faulty (is_defined text before) (record { kind = Duplicate; at = i }) duplicate }
 
 any_swapped : (text : List ℕ) (actions : List ActionText) → list_any (bytes_eq text) (action_names actions) ≡ is_defined text actions
 any_swapped text [] = refl

@@ -1,23 +1,23 @@
 -- The faults that are met in a problem stand in order.
-use Rattle.std.proofs.Common.{◌≡◌, ℕ, suc, ◌*◌, ◌≤◌, ◌<◌, true, Some, List, [], ◌++◌, arith, not, append_assoc}
+use Rattle.std.proofs.Common.{◌≡◌, ℕ, suc, ◌*◌, ◌≤◌, ◌<◌, true, Some, List, [], ◌++◌, arith, not, append_assoc, sym, ap, subst, ◌∙◌, ⊎_elim}
 use Rattle.std.proofs.lemmas.List.{append-nil}
 use Rattle.std.specs.Prelude.{codes, is_some}
 use Rattle.std.specs.Str.{bytes_eq}
 use Rattle.wp_lex.specs.Trees.{Tree, Trees, Leaf, Branch, End, Then}
 use Rattle.wp_lex.specs.Rising.{TreeRises, Rises}
-use Rattle.wp_syntax.specs.declared.error.PddlKind.TheVariants.{Shape, Unsupported, Duplicate}
+use Rattle.wp_syntax.specs.declared.error.ReadKind.TheVariants.{Shape, Unsupported, Duplicate}
 use Rattle.wp_syntax.specs.declared.typing.Role.TheVariants as roles
 use Rattle.wp_syntax.specs.declared.problem.Entries.{Entries}
 use Rattle.wp_syntax.specs.declared.word.ItemHead.TheVariants as item_heads
 use Rattle.wp_syntax.specs.Heads.{item_head_of}
-use Rattle.wp_syntax.specs.Reading.{Wrong, Read, fine, wrong, wrong_if, ◌>>=◌, ◌>>◌, each}
+use Rattle.wp_syntax.specs.Reading.{Wrong, Read, fine, wrong, wrong_if, ◌>>=◌, ◌>>◌, each, first}
 use Rattle.wp_syntax.specs.Grammar.{goal_of}
 use Rattle.wp_syntax.specs.Effects.{fact_of}
 use Rattle.wp_syntax.specs.Typing.{typed_of}
 use Rattle.wp_syntax.specs.Outline.{end_of, only_name_of, title_of, flags_of}
 use Rattle.wp_syntax.specs.Problems.{no_entries, domain_name_of, only_goal_of, goal_entry_of, headed_entry_of, entry_of, entries_of, problem_of}
-use Rattle.wp_syntax.specs.Walk.{Ordered, met_of, missing_of}
-use Rattle.wp_syntax.proofs.Order.{lower, both, higher, ended, perhaps, rises_le, each_walks}
+use Rattle.wp_syntax.specs.Walk.{Ordered, IsLeast, met_of, missing_of}
+use Rattle.wp_syntax.proofs.Order.{lower, both, higher, ended, perhaps, rises_le, each_walks, first_least, first_before}
 use Rattle.wp_syntax.proofs.CondOrder.{goal_walks, fact_walks}
 use Rattle.wp_syntax.proofs.DomainOrder.{once_walks, typed_walks, end_walks, some_name_walks, title_walks, flags_walk}
 
@@ -121,3 +121,11 @@ problem_walks (Then (Branch at trees) (Then tree rest)) high (middle, (l, inside
 -- what is missing comes last
 pub missing_last : (trees : Trees) → (problem_of trees).faults ≡ met_of trees ++ missing_of trees
 missing_last trees = simp (append_assoc, append-nil)
+
+-- the first fault of a problem is the least of those that are met
+pub met_least : (trees : Trees) (high : ℕ) (fault : Wrong) → Rises trees 0 high → first (problem_of trees).faults ≡ Some fault
+    → IsLeast fault (met_of trees)
+met_least trees high fault r e =
+    ⊎_elim (λ (none : met_of trees ≡ []). subst (λ (faults : List Wrong). IsLeast fault faults) (sym none) tt)
+    (λ (there : first (met_of trees) ≡ Some fault). first_least 0 (5 * high) fault (met_of trees) (problem_walks trees high r) there)
+    (first_before (met_of trees) (missing_of trees) fault (ap first (sym (missing_last trees)) ∙ e))

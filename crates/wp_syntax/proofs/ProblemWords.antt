@@ -4,7 +4,7 @@ use Rattle.std.specs.Prelude.{All, unwrap_or, is_some}
 use Rattle.std.proofs.lemmas.List.Elements.{All-nil}
 use Rattle.wp_lex.specs.Trees.{Tree, Trees, Leaf, Branch, End, Then}
 use Rattle.wp_lex.specs.Leaves.{IsOfWords, AreOfWords}
-use Rattle.wp_syntax.specs.declared.error.PddlKind.TheVariants.{Shape, Unsupported, Duplicate}
+use Rattle.wp_syntax.specs.declared.error.ReadKind.TheVariants.{Shape, Unsupported, Duplicate}
 use Rattle.wp_syntax.specs.declared.records.Problem.{Problem}
 use Rattle.wp_syntax.specs.declared.problem.Entries.{Entries}
 use Rattle.wp_syntax.specs.declared.typing.Role.TheVariants as roles

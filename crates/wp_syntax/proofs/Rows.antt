@@ -3,8 +3,8 @@ use Rattle.std.proofs.Common.{◌≡◌, List, ℕ, [], ◌∷◌, ◌++◌, Opt
 use Rattle.std.specs.Prelude.{codes}
 use Rattle.wp_lex.specs.Items.{items_of}
 use Rattle.wp_lex.specs.Trees.{trees_of}
-use Rattle.wp_syntax.specs.declared.error.PddlKind.{PddlKind}
-use Rattle.wp_syntax.specs.declared.error.PddlKind.TheVariants.{Shape, Unsupported, Reserved, Duplicate, TooMany}
+use Rattle.wp_syntax.specs.declared.error.ReadKind.{ReadKind}
+use Rattle.wp_syntax.specs.declared.error.ReadKind.TheVariants.{Shape, Unsupported, Reserved, Duplicate, TooMany}
 use Rattle.wp_syntax.specs.Reading.{Wrong, first}
 use Rattle.wp_syntax.specs.declared.records.Typed.{Typed}
 use Rattle.wp_syntax.specs.declared.records.PredText.{PredText}
@@ -15,7 +15,7 @@ use Rattle.wp_syntax.specs.Predicates.{declared_of}
 use Rattle.wp_syntax.specs.Domains.{domain_of}
 use Rattle.wp_syntax.specs.Problems.{problem_of}
 
-abbrev at : PddlKind → ℕ → Option Wrong
+abbrev at : ReadKind → ℕ → Option Wrong
 at kind place = Some (record { kind = kind; at = place })
 
 -- the first fault of a domain, and of a problem

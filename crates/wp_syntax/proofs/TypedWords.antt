@@ -5,7 +5,7 @@ use Rattle.std.proofs.lemmas.List.Elements.{All-nil, All-cons, All-push, All-app
 use Rattle.wp_lex.specs.Words.{IsWord}
 use Rattle.wp_lex.specs.Trees.{Tree, Trees, Leaf, Branch, End, Then}
 use Rattle.wp_lex.specs.Leaves.{IsOfWords, AreOfWords}
-use Rattle.wp_syntax.specs.declared.error.PddlKind.TheVariants.{Shape}
+use Rattle.wp_syntax.specs.declared.error.ReadKind.TheVariants.{Shape}
 use Rattle.wp_syntax.specs.declared.records.Name.{Name}
 use Rattle.wp_syntax.specs.declared.records.Typed.{Typed}
 use Rattle.wp_syntax.specs.declared.typing.Role.{Role}

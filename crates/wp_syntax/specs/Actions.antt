@@ -5,10 +5,8 @@
 --
 -- Each part stands once at most, in any order. Each action is declared once, and there are no more than 4,096.
 use Rattle.std.specs.Prelude.{ℕ, Bool, List, [], Some, None, is_some, unwrap_or, not, nat_le, length}
-use Rattle.std.specs.List.{list_any}
-use Rattle.std.specs.Str.{bytes_eq}
 use Rattle.wp_lex.specs.Trees.{Tree, Trees, Leaf, Branch, End, Then}
-use Rattle.wp_syntax.specs.declared.error.PddlKind.TheVariants.{Shape, Unsupported, Duplicate, TooMany}
+use Rattle.wp_syntax.specs.declared.error.ReadKind.TheVariants.{Shape, Unsupported, Duplicate, TooMany}
 use Rattle.wp_syntax.specs.declared.records.Name.{Name}
 use Rattle.wp_syntax.specs.declared.records.ActionText.{ActionText}
 use Rattle.wp_syntax.specs.declared.action.Parts.{Parts}
@@ -17,6 +15,7 @@ use Rattle.wp_syntax.specs.declared.word.PartHead.TheVariants as part_heads
 use Rattle.wp_syntax.specs.Word.{is_name}
 use Rattle.wp_syntax.specs.Heads.{part_head_of}
 use Rattle.wp_syntax.specs.Reading.{Read, fine, wrong, wrong_if, ◌>>=◌, ◌>>◌}
+use Rattle.wp_syntax.specs.Named.{has_named, most_declared}
 use Rattle.wp_syntax.specs.Grammar.{name_at, cond_of}
 use Rattle.wp_syntax.specs.Effects.{effect_of}
 use Rattle.wp_syntax.specs.Typing.{typed_of}
@@ -64,14 +63,14 @@ action_from name parts = record {
 }
 
 abbrev pub is_defined : List ℕ → List ActionText → Bool
-is_defined text actions = list_any (λ action. bytes_eq action.name.text text) actions
+is_defined text actions = has_named (λ (action : ActionText). action.name) text actions
 
 -- a name that may be given after those before it
 abbrev pub defined_of : List ActionText → List ℕ → ℕ → Read (Unit {0})
 defined_of before text at =
     wrong_if (not (is_name text)) Shape at
     >> (wrong_if (is_defined text before) Duplicate at
-    >> wrong_if (nat_le 4096 (length before)) (TooMany 4096) at)
+    >> wrong_if (nat_le most_declared (length before)) (TooMany most_declared) at)
 
 abbrev pub no_action : ℕ → ActionText
 no_action at = action_from (name_at [] at) no_parts

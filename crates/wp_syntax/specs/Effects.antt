@@ -4,10 +4,10 @@
 --   init   = atom | ( not atom )
 --
 -- Ours: the head of a list after `not` decides whether it is an atom, and (at NUMBER (..)) in :init is PDDL's timed literal.
-use Rattle.std.specs.Prelude.{ℕ, Bool, true, false, List, [], ◌∷◌, ◌++◌, ◌&&◌, Some, None, codes}
+use Rattle.std.specs.Prelude.{ℕ, Bool, true, false, List, [], ◌∷◌, ◌&&◌, Some, None, codes}
 use Rattle.std.specs.Str.{bytes_eq}
 use Rattle.wp_lex.specs.Trees.{Tree, Trees, Leaf, Branch, End, Then}
-use Rattle.wp_syntax.specs.declared.error.PddlKind.TheVariants.{Shape, Unsupported}
+use Rattle.wp_syntax.specs.declared.error.ReadKind.TheVariants.{Shape, Unsupported}
 use Rattle.wp_syntax.specs.declared.records.AtomText.{AtomText}
 use Rattle.wp_syntax.specs.declared.records.Effect.{Effect}
 use Rattle.wp_syntax.specs.declared.records.InitItem.{InitItem}
@@ -15,7 +15,7 @@ use Rattle.wp_syntax.specs.declared.word.Head.TheVariants as heads
 use Rattle.wp_syntax.specs.Word.{starts_with_digit}
 use Rattle.wp_syntax.specs.Heads.{head_of}
 use Rattle.wp_syntax.specs.Reading.{Read, fine, wrong, ◌>>=◌, ◌>>◌}
-use Rattle.wp_syntax.specs.Grammar.{name_at, atom_of, lone_of}
+use Rattle.wp_syntax.specs.Grammar.{conjunction_of, name_at, atom_of, lone_of}
 
 -- what stands where a text has no atom
 abbrev pub no_atom : List ℕ → ℕ → AtomText
@@ -40,19 +40,8 @@ plain_effect_of at head i rest = elim (head_of head) [
   | _ ↦ wrong (Unsupported head) i >> fine []
 ]
 
-abbrev mutual
-  pub effect_of : Tree → Read (List Effect)
-  effect_of (Leaf text at) = wrong Shape at >> fine []
-  effect_of (Branch at End) = fine []
-  effect_of (Branch at (Then (Branch i trees) rest)) = wrong Shape at >> fine []
-  effect_of (Branch at (Then (Leaf head i) rest)) = elim (bytes_eq head (codes "and")) [
-    | true ↦ effects_of rest
-    | false ↦ plain_effect_of at head i rest
-  ]
-
-  pub effects_of : Trees → Read (List Effect)
-  effects_of End = fine []
-  effects_of (Then tree rest) = effect_of tree >>= λ front. effects_of rest >>= λ back. fine (front ++ back)
+abbrev pub effect_of : Tree → Read (List Effect)
+effect_of tree = conjunction_of plain_effect_of tree
 
 -- ( at NUMBER ( .. ) )
 abbrev pub is_timed : List ℕ → Trees → Bool

@@ -6,7 +6,7 @@
 use Rattle.std.specs.Prelude.{ℕ, Bool, true, false, List, [], ◌∷◌, ◌++◌, not, Option, Some, None, codes}
 use Rattle.std.specs.Str.{bytes_eq}
 use Rattle.wp_lex.specs.Trees.{Tree, Trees, Leaf, Branch, End, Then}
-use Rattle.wp_syntax.specs.declared.error.PddlKind.TheVariants.{Shape, Unsupported}
+use Rattle.wp_syntax.specs.declared.error.ReadKind.TheVariants.{Shape, Unsupported}
 use Rattle.wp_syntax.specs.declared.records.Name.{Name}
 use Rattle.wp_syntax.specs.declared.records.AtomText.{AtomText}
 use Rattle.wp_syntax.specs.declared.records.Cond.{Cond}
@@ -22,6 +22,23 @@ name_at text at = record { text = text; at = at }
 abbrev pub place_of : Tree → ℕ
 place_of (Leaf text at) = at
 place_of (Branch at trees) = at
+
+-- X = ( ) | ( and X* ) | PLAIN, where PLAIN begins with another word: it has the place of its list, that word and its place, and what
+-- stands behind it. Conjunctions within one are flattened.
+abbrev mutual
+  pub conjunction_of : {A : Type 0} → (ℕ → List ℕ → ℕ → Trees → Read (List A)) → Tree → Read (List A)
+  conjunction_of plain (Leaf text at) = wrong Shape at >> fine []
+  conjunction_of plain (Branch at End) = fine []
+  conjunction_of plain (Branch at (Then (Branch i trees) rest)) = wrong Shape at >> fine []
+  conjunction_of plain (Branch at (Then (Leaf head i) rest)) = elim (bytes_eq head (codes "and")) [
+    | true ↦ conjuncts_of plain rest
+    | false ↦ plain at head i rest
+  ]
+
+  pub conjuncts_of : {A : Type 0} → (ℕ → List ℕ → ℕ → Trees → Read (List A)) → Trees → Read (List A)
+  conjuncts_of plain End = fine []
+  conjuncts_of plain (Then tree rest) =
+      conjunction_of plain tree >>= λ front. conjuncts_of plain rest >>= λ back. fine (front ++ back)
 
 -- a name or a variable
 abbrev pub term_of : Tree → Read (List Name)
@@ -86,19 +103,8 @@ plain_cond_of at head i rest = elim (head_of head) [
   | _ ↦ wrong (Unsupported head) i >> fine []
 ]
 
-abbrev mutual
-  pub cond_of : Tree → Read (List Cond)
-  cond_of (Leaf text at) = wrong Shape at >> fine []
-  cond_of (Branch at End) = fine []
-  cond_of (Branch at (Then (Branch i trees) rest)) = wrong Shape at >> fine []
-  cond_of (Branch at (Then (Leaf head i) rest)) = elim (bytes_eq head (codes "and")) [
-    | true ↦ conds_of rest
-    | false ↦ plain_cond_of at head i rest
-  ]
-
-  pub conds_of : Trees → Read (List Cond)
-  conds_of End = fine []
-  conds_of (Then tree rest) = cond_of tree >>= λ front. conds_of rest >>= λ back. fine (front ++ back)
+abbrev pub cond_of : Tree → Read (List Cond)
+cond_of tree = conjunction_of plain_cond_of tree
 
 -- a goal that is no conjunction
 abbrev pub plain_goal_of : ℕ → List ℕ → ℕ → Trees → Read (List AtomText)
@@ -108,16 +114,5 @@ plain_goal_of at head i rest = elim (head_of head) [
   | _ ↦ wrong (Unsupported head) i >> fine []
 ]
 
-abbrev mutual
-  pub goal_of : Tree → Read (List AtomText)
-  goal_of (Leaf text at) = wrong Shape at >> fine []
-  goal_of (Branch at End) = fine []
-  goal_of (Branch at (Then (Branch i trees) rest)) = wrong Shape at >> fine []
-  goal_of (Branch at (Then (Leaf head i) rest)) = elim (bytes_eq head (codes "and")) [
-    | true ↦ goals_of rest
-    | false ↦ plain_goal_of at head i rest
-  ]
-
-  pub goals_of : Trees → Read (List AtomText)
-  goals_of End = fine []
-  goals_of (Then tree rest) = goal_of tree >>= λ front. goals_of rest >>= λ back. fine (front ++ back)
+abbrev pub goal_of : Tree → Read (List AtomText)
+goal_of tree = conjunction_of plain_goal_of tree

@@ -1,14 +1,11 @@
 -- What domains and problems share: ( define ( WORD NAME ) .. ), and flags.
-use Rattle.std.specs.Prelude.{◌≡◌, ℕ, List, [], not, codes, Result, Ok, Err}
+use Rattle.std.specs.Prelude.{ℕ, List, [], not, codes}
 use Rattle.std.specs.Str.{bytes_eq}
-use Rattle.wp_lex.specs.Trees.{Tree, Trees, Leaf, Branch, End, Then, trees_of}
-use Rattle.wp_lex.specs.Node.{tree_of}
-use Rattle.wp_syntax.specs.declared.error.ReadError.{ReadError}
-use Rattle.wp_syntax.specs.declared.outline.Outline.{Outline}
-use Rattle.wp_syntax.specs.declared.error.PddlKind.TheVariants.{Shape}
+use Rattle.wp_lex.specs.Trees.{Tree, Trees, Leaf, Branch, End, Then}
+use Rattle.wp_syntax.specs.declared.error.ReadKind.TheVariants.{Shape}
 use Rattle.wp_syntax.specs.declared.records.Name.{Name}
 use Rattle.wp_syntax.specs.Word.{is_keyword, is_name}
-use Rattle.wp_syntax.specs.Reading.{Read, fine, wrong, wrong_if, ◌>>=◌, ◌>>◌, Fails}
+use Rattle.wp_syntax.specs.Reading.{Read, fine, wrong, wrong_if, ◌>>=◌, ◌>>◌}
 use Rattle.wp_syntax.specs.Grammar.{name_at, place_of}
 
 -- the place of a text's list, its title, and what follows
@@ -63,8 +60,3 @@ flag_of (Branch at trees) = wrong Shape at
 abbrev pub flags_of : Trees → Read (Unit {0})
 flags_of End = fine tt
 flags_of (Then tree rest) = flag_of tree >> flags_of rest
-
--- A call returns the outline of a text, or how it fails.
-abbrev pub Outlines : Result Outline ReadError → Read Frame → Type 0
-Outlines (Ok x) read = read ≡ fine (record { at = x.at; title = tree_of x.title; rest = trees_of x.rest.now })
-Outlines (Err e) read = Fails e read.faults

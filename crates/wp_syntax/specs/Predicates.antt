@@ -4,26 +4,25 @@
 --
 -- Each is declared once, by no word of the language, and there are no more than 4,096.
 use Rattle.std.specs.Prelude.{ℕ, Bool, true, false, List, [], ◌∷◌, ◌++◌, nat_le, length}
-use Rattle.std.specs.List.{list_any}
-use Rattle.std.specs.Str.{bytes_eq}
 use Rattle.wp_lex.specs.Trees.{Tree, Trees, Leaf, Branch, End, Then}
-use Rattle.wp_syntax.specs.declared.error.PddlKind.TheVariants.{Shape, Reserved, Duplicate, TooMany}
+use Rattle.wp_syntax.specs.declared.error.ReadKind.TheVariants.{Shape, Reserved, Duplicate, TooMany}
 use Rattle.wp_syntax.specs.declared.records.PredText.{PredText}
 use Rattle.wp_syntax.specs.declared.typing.Role.TheVariants as roles
 use Rattle.wp_syntax.specs.Word.{is_name, is_reserved}
 use Rattle.wp_syntax.specs.Reading.{Read, fine, wrong, wrong_if, ◌>>=◌, ◌>>◌}
 use Rattle.wp_syntax.specs.Grammar.{name_at}
+use Rattle.wp_syntax.specs.Named.{has_named, most_declared}
 use Rattle.wp_syntax.specs.Typing.{typed_of}
 
 abbrev pub is_declared : List ℕ → List PredText → Bool
-is_declared text preds = list_any (λ pred. bytes_eq pred.name.text text) preds
+is_declared text preds = has_named (λ (pred : PredText). pred.name) text preds
 
 -- a name that may be declared after those before it
 abbrev pub declared_of : List PredText → List ℕ → ℕ → Read (Unit {0})
 declared_of before text at =
     wrong_if (is_reserved text) Reserved at
     >> (wrong_if (is_declared text before) Duplicate at
-    >> wrong_if (nat_le 4096 (length before)) (TooMany 4096) at)
+    >> wrong_if (nat_le most_declared (length before)) (TooMany most_declared) at)
 
 abbrev pub declaration_of : List PredText → List ℕ → ℕ → Trees → Read PredText
 declaration_of before text at rest =

@@ -6,7 +6,7 @@
 -- Items come in any order, once at most; :init and :goal must be there, which is asked after all else.
 use Rattle.std.specs.Prelude.{ℕ, true, false, List, [], Some, None, is_some, is_none, unwrap_or, codes}
 use Rattle.wp_lex.specs.Trees.{Tree, Trees, Leaf, Branch, End, Then}
-use Rattle.wp_syntax.specs.declared.error.PddlKind.TheVariants.{Shape, Unsupported, Duplicate}
+use Rattle.wp_syntax.specs.declared.error.ReadKind.TheVariants.{Shape, Unsupported, Duplicate}
 use Rattle.wp_syntax.specs.declared.records.Name.{Name}
 use Rattle.wp_syntax.specs.declared.records.AtomText.{AtomText}
 use Rattle.wp_syntax.specs.declared.records.Problem.{Problem}

@@ -5,22 +5,18 @@
 --
 -- Names are words that are not checked further, parameters are variables. An action's parameters differ from each other,
 -- and no more than 32 stand at one action or predicate.
-use Rattle.std.specs.Prelude.{◌≡◌, Result, Ok, Err, ℕ, ◌+◌, Bool, true, false, List, [], ◌∷◌, ◌++◌, ◌||◌, not, nat_le, map, length, codes}
-use Rattle.std.specs.List.{list_any}
+use Rattle.std.specs.Prelude.{ℕ, ◌+◌, Bool, true, false, List, [], ◌∷◌, ◌++◌, ◌||◌, not, nat_le, map, length, codes}
 use Rattle.std.specs.Str.{bytes_eq}
-use Rattle.std.specs.Borrow.{Bor}
-use Rattle.wp_lex.specs.Trees.{Tree, Trees, Leaf, Branch, End, Then, trees_of}
-use Rattle.wp_lex.specs.declared.item.Item.{Item}
-use Rattle.wp_syntax.specs.declared.error.ReadError.{ReadError}
-use Rattle.wp_syntax.specs.declared.error.PddlKind.TheVariants.{Shape, Duplicate, TooMany}
+use Rattle.wp_lex.specs.Trees.{Tree, Trees, Leaf, Branch, End, Then}
+use Rattle.wp_syntax.specs.declared.error.ReadKind.TheVariants.{Shape, Duplicate, TooMany}
 use Rattle.wp_syntax.specs.declared.records.Name.{Name}
 use Rattle.wp_syntax.specs.declared.records.Typed.{Typed}
 use Rattle.wp_syntax.specs.declared.typing.Role.{Role}
-use Rattle.wp_syntax.specs.declared.typing.TypedSoFar.{TypedSoFar}
 use Rattle.wp_syntax.specs.declared.typing.Role.TheVariants as roles
 use Rattle.wp_syntax.specs.Word.{is_dash, is_name, is_variable}
-use Rattle.wp_syntax.specs.Reading.{Read, fine, wrong, wrong_if, ◌>>=◌, ◌>>◌, each, Fails}
+use Rattle.wp_syntax.specs.Reading.{Read, fine, wrong, wrong_if, ◌>>=◌, ◌>>◌, each}
 use Rattle.wp_syntax.specs.Grammar.{name_at}
+use Rattle.wp_syntax.specs.Named.{has_named, most_params}
 
 abbrev pub is_empty : {A : Type 0} → List A → Bool
 is_empty [] = true
@@ -36,14 +32,14 @@ with_kinds kinds names = map (with_kind kinds) names
 
 -- a name stands among those that have their kind or those that wait for it
 abbrev pub is_typed : List ℕ → List Typed → Bool
-is_typed text done = list_any (λ typed. bytes_eq typed.name.text text) done
+is_typed text done = has_named (λ (typed : Typed). typed.name) text done
 
 abbrev pub is_named : List ℕ → List Name → Bool
-is_named text names = list_any (λ name. bytes_eq name.text text) names
+is_named text names = has_named (λ (name : Name). name) text names
 
 -- one more parameter is within the limit
 abbrev pub limit_of : List Typed → List Name → ℕ → Read (Unit {0})
-limit_of done group at = wrong_if (nat_le 32 (length done + length group)) (TooMany 32) at
+limit_of done group at = wrong_if (nat_le most_params (length done + length group)) (TooMany most_params) at
 
 -- a word of the list, by what the list is
 abbrev pub word_of : Role → List Typed → List Name → List ℕ → ℕ → Read (Unit {0})
@@ -87,21 +83,3 @@ abbrev mutual
       wrong_if (not (is_name text)) Shape dash >> typed_of role (done ++ with_kinds (name_at text at ∷ []) group) [] rest
   grouped_of role done group dash (Then (Branch at trees) rest) =
       either_of at trees >>= λ kinds. typed_of role (done ++ with_kinds kinds group) [] rest
-
--- the rest of a list, by what was read of it; grouped_from is behind a dash
-abbrev pub typed_from : TypedSoFar → Trees → Read (List Typed)
-typed_from so_far trees = typed_of so_far.role so_far.done.items so_far.group.items trees
-
-abbrev pub grouped_from : ℕ → TypedSoFar → Trees → Read (List Typed)
-grouped_from dash so_far trees = grouped_of so_far.role so_far.done.items so_far.group.items dash trees
-
--- The kind behind a dash is read: what is left gives what there was.
-abbrev pub GoesBehind : ℕ → Result (Bor (List Item)) ReadError → TypedSoFar → TypedSoFar → Trees → Type 0
-GoesBehind dash (Ok rest) old new trees = grouped_from dash old trees ≡ typed_from new (trees_of rest.now)
-GoesBehind dash (Err e) old new trees = Fails e (grouped_from dash old trees).faults
-
--- The group has these kinds.
-pub record GivesKinds (kinds : List Name) (old new : TypedSoFar) : Type 0 where
-  pub role : new.role ≡ old.role
-  pub done : new.done.items ≡ old.done.items ++ with_kinds kinds old.group.items
-  pub group : new.group.items ≡ []

@@ -3,16 +3,17 @@
 ghost use Rattle.std.specs.Prelude.{◌≡◌, ◌≤◌, length, IfOk};
 ghost use Rattle.wp_lex.specs.Node.{tree_of};
 ghost use Rattle.wp_lex.specs.Trees.{Then, trees_of};
-ghost use Rattle.wp_syntax.specs.Reading.{Fails, Gives, GoesOn, Passes, Turns};
+ghost use Rattle.wp_syntax.specs.Reading.{Fails, Gives, Passes, Turns};
+ghost use Rattle.wp_syntax.specs.Steps.{GoesOn};
 ghost use Rattle.wp_syntax.specs.Grammar.{cond_of};
 ghost use Rattle.wp_syntax.specs.Effects.{effect_of};
-ghost use Rattle.wp_syntax.specs.Actions.{no_parts, part_of, bare_part_of, valued_of, parts_of, action_from, is_defined, defined_of, action_of};
+ghost use Rattle.wp_syntax.specs.Actions.{no_parts, part_of, bare_part_of, valued_of, parts_of, action_from, defined_of, action_of};
 
 use crate::atom::{name, place_of};
-use crate::cond::cond;
-use crate::effect::effect;
-use crate::error::{PddlKind, ReadError, bad, shape, unsupported};
+use crate::conjunction::conjunction;
+use crate::error::{Fault, ReadError, ReadKind, bad, shape, unsupported, wrong};
 use crate::lists::{Conds, Effects, TypedList};
+use crate::named::{MOST_DECLARED, has_named};
 use crate::records::{ActionText, Name};
 use crate::typing::{Role, typed_list};
 use crate::word::{PartHead, is_name, part_head_of};
@@ -32,7 +33,7 @@ fn precondition(alloc: Global, node: Node<'_>) -> Result<Conds, ReadError>
     ensures { Gives result (cond_of (tree_of node.entry)) }
 {
     let mut conds = Vec::new(alloc);
-    cond(alloc, node, &mut conds)?;
+    conjunction(alloc, node, &mut conds)?;
     Ok(Conds::of_vec(conds))
 }
 
@@ -40,7 +41,7 @@ fn effects(alloc: Global, node: Node<'_>) -> Result<Effects, ReadError>
     ensures { Gives result (effect_of (tree_of node.entry)) }
 {
     let mut effects = Vec::new(alloc);
-    effect(alloc, node, &mut effects)?;
+    conjunction(alloc, node, &mut effects)?;
     Ok(Effects::of_vec(effects))
 }
 
@@ -58,21 +59,21 @@ fn part(
     match part_head_of(word) {
         PartHead::Parameters => {
             if so_far.params.is_some() {
-                return Err(bad(PddlKind::Duplicate, at));
+                return Err(bad(ReadKind::Duplicate, at));
             }
             so_far.params = Some(typed_list(alloc, Role::Action, inner)?);
             Ok(())
         }
         PartHead::Precondition => {
             if so_far.pre.is_some() {
-                return Err(bad(PddlKind::Duplicate, at));
+                return Err(bad(ReadKind::Duplicate, at));
             }
             so_far.pre = Some(precondition(alloc, Node::List { at: list, inner })?);
             Ok(())
         }
         PartHead::Effect => {
             if so_far.effects.is_some() {
-                return Err(bad(PddlKind::Duplicate, at));
+                return Err(bad(ReadKind::Duplicate, at));
             }
             so_far.effects = Some(effects(alloc, Node::List { at: list, inner })?);
             Ok(())
@@ -159,26 +160,23 @@ fn action_from(alloc: Global, name: Name, parts: Parts) -> ActionText
     }
 }
 
-fn is_defined(text: &Text, actions: &[ActionText]) -> bool
-    ensures { result ≡ is_defined text.now actions.now }
-{
-    actions
-        .iter()
-        .any(|action| action.name.text.as_slice() == text.as_slice())
-}
-
 // A name that may be given after those before it.
-fn defined(before: &[ActionText], text: &Text, at: u64) -> Result<(), ReadError>
+fn defined(before: &[ActionText], text: &Text, at: u64) -> Result<(), Fault>
     ensures { Passes result (defined_of before.now text.now at) }
 {
     if !is_name(text) {
-        return Err(shape(at));
+        return Err(wrong(ReadKind::Shape, at));
     }
-    if is_defined(text, before) {
-        return Err(bad(PddlKind::Duplicate, at));
+    if has_named(text, before) {
+        return Err(wrong(ReadKind::Duplicate, at));
     }
-    if before.len() >= 4096 {
-        return Err(bad(PddlKind::TooMany { limit: 4096 }, at));
+    if before.len() >= MOST_DECLARED as usize {
+        return Err(wrong(
+            ReadKind::TooMany {
+                limit: MOST_DECLARED,
+            },
+            at,
+        ));
     }
     Ok(())
 }

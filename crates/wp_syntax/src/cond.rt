@@ -4,12 +4,13 @@ ghost use Rattle.std.specs.Prelude.{◌≡◌};
 ghost use Rattle.wp_lex.specs.Node.{tree_of};
 ghost use Rattle.wp_lex.specs.Trees.{trees_of};
 ghost use Rattle.wp_syntax.specs.Reading.{Adds, Gives};
-ghost use Rattle.wp_syntax.specs.Grammar.{atom_cond_of, equation, side_of, sides_of, equality_of, negation_of, plain_cond_of, cond_of, conds_of};
+ghost use Rattle.wp_syntax.specs.Grammar.{atom_cond_of, equation, side_of, sides_of, equality_of, negation_of};
 
-use crate::atom::{atom, lone, name, place_of};
+use crate::atom::{atom, lone, name};
+use crate::conjunction::Conjunct;
 use crate::error::{ReadError, shape, unsupported};
 use crate::records::{Cond, Name};
-use crate::word::{Head, head_of, is_term, is_word};
+use crate::word::{Head, head_of, is_term};
 use std::alloc::Global;
 use wp_edge::Text;
 use wp_lex::{Item, Node, next};
@@ -108,55 +109,25 @@ fn negation(
     }
 }
 
-// A condition that is no conjunction, by its first word.
-fn plain_cond(
-    alloc: Global,
-    at: u64,
-    head: &Text,
-    place: u64,
-    items: &[Item],
-    out: &mut Vec<Cond>,
-) -> Result<(), ReadError>
-    ensures { Adds result out.old.items out.new.items (plain_cond_of at head.now place (trees_of items.now)) }
-{
-    match head_of(head) {
-        Head::Not => negation(alloc, head, place, items, out),
-        Head::Equal => equality(alloc, true, head, place, items, out),
-        Head::Name => atom_cond(alloc, head, place, items, out),
-        Head::Other => Err(shape(at)),
-        _ => Err(unsupported(alloc, head, place)?),
-    }
-}
+impl Conjunct for Cond {
+    ghost use Rattle.wp_syntax.specs.Grammar.{plain_cond_of};
 
-/// A condition: its atoms and equalities go behind those of `out`, in the order of the text.
-#[cycle(conds)]
-pub fn cond(alloc: Global, node: Node<'_>, out: &mut Vec<Cond>) -> Result<(), ReadError>
-    ensures { Adds result out.old.items out.new.items (cond_of (tree_of node.entry)) }
-{
-    let Node::List { at, inner } = node else {
-        return Err(shape(place_of(node)));
-    };
-    match next(inner) {
-        None => Ok(()),
-        Some((Node::List { at: _, inner: _ }, _)) => Err(shape(at)),
-        Some((Node::Word { text, at: place }, rest)) => {
-            if is_word(text, b"and") {
-                conds(alloc, rest, out)
-            } else {
-                plain_cond(alloc, at, text, place, rest, out)
-            }
+    ghost plain_of = { plain_cond_of };
+
+    fn plain(
+        alloc: Global,
+        at: u64,
+        head: &Text,
+        place: u64,
+        items: &[Item],
+        out: &mut Vec<Cond>,
+    ) -> Result<(), ReadError> {
+        match head_of(head) {
+            Head::Not => negation(alloc, head, place, items, out),
+            Head::Equal => equality(alloc, true, head, place, items, out),
+            Head::Name => atom_cond(alloc, head, place, items, out),
+            Head::Other => Err(shape(at)),
+            _ => Err(unsupported(alloc, head, place)?),
         }
     }
-}
-
-#[cycle(conds)]
-fn conds(alloc: Global, items: &[Item], out: &mut Vec<Cond>) -> Result<(), ReadError>
-    ensures { Adds result out.old.items out.new.items (conds_of (trees_of items.now)) }
-{
-    let mut rest = items;
-    while let Some((node, after)) = next(rest) {
-        cond(alloc, node, out)?;
-        rest = after;
-    }
-    Ok(())
 }

@@ -8,7 +8,7 @@ ghost use Rattle.wp_syntax.specs.Domains.{no_sections, headed_section_of, sectio
 
 use crate::action::action;
 use crate::atom::place_of;
-use crate::error::{PddlKind, ReadError, bad, shape, unsupported};
+use crate::error::{ReadError, ReadKind, bad, shape, unsupported};
 use crate::lists::{ActionTexts, PredTexts, TypedList};
 use crate::outline::{flags, outer_list, title};
 use crate::predicate::preds;
@@ -55,7 +55,7 @@ fn headed_section(
     match section_head_of(head) {
         SectionHead::Requirements => {
             if so_far.requirements {
-                return Err(bad(PddlKind::Duplicate, at));
+                return Err(bad(ReadKind::Duplicate, at));
             }
             flags(items)?;
             so_far.requirements = true;
@@ -63,21 +63,21 @@ fn headed_section(
         }
         SectionHead::Types => {
             if so_far.types.is_some() {
-                return Err(bad(PddlKind::Duplicate, at));
+                return Err(bad(ReadKind::Duplicate, at));
             }
             so_far.types = Some(typed_list(alloc, Role::Names, items)?);
             Ok(())
         }
         SectionHead::Constants => {
             if so_far.constants.is_some() {
-                return Err(bad(PddlKind::Duplicate, at));
+                return Err(bad(ReadKind::Duplicate, at));
             }
             so_far.constants = Some(typed_list(alloc, Role::Names, items)?);
             Ok(())
         }
         SectionHead::Predicates => {
             if so_far.preds.is_some() {
-                return Err(bad(PddlKind::Duplicate, at));
+                return Err(bad(ReadKind::Duplicate, at));
             }
             so_far.preds = Some(preds(alloc, items)?);
             Ok(())

@@ -4,9 +4,10 @@ ghost use Rattle.std.specs.Prelude.{◌≡◌, List};
 ghost use Rattle.wp_lex.specs.Node.{tree_of};
 ghost use Rattle.wp_lex.specs.Trees.{trees_of};
 ghost use Rattle.wp_syntax.specs.Reading.{Adds, Gives, each};
-ghost use Rattle.wp_syntax.specs.Effects.{negated_of, plain_effect_of, effect_of, effects_of, is_timed, stated_of, headed_fact_of, fact_of};
+ghost use Rattle.wp_syntax.specs.Effects.{negated_of, is_timed, stated_of, headed_fact_of, fact_of};
 
 use crate::atom::{atom, lone, place_of};
+use crate::conjunction::Conjunct;
 use crate::error::{ReadError, shape, unsupported};
 use crate::lists::InitItems;
 use crate::records::{AtomText, Effect, InitItem};
@@ -28,64 +29,34 @@ fn negated(alloc: Global, word: &Text, at: u64, items: &[Item]) -> Result<AtomTe
     }
 }
 
-// An effect that is no conjunction, by its first word.
-fn plain_effect(
-    alloc: Global,
-    at: u64,
-    head: &Text,
-    place: u64,
-    items: &[Item],
-    out: &mut Vec<Effect>,
-) -> Result<(), ReadError>
-    ensures { Adds result out.old.items out.new.items (plain_effect_of at head.now place (trees_of items.now)) }
-{
-    match head_of(head) {
-        Head::Not => {
-            let atom = negated(alloc, head, place, items)?;
-            out.push(Effect { add: false, atom })?;
-            Ok(())
-        }
-        Head::Name => {
-            let atom = atom(alloc, head, place, items)?;
-            out.push(Effect { add: true, atom })?;
-            Ok(())
-        }
-        Head::Other => Err(shape(at)),
-        _ => Err(unsupported(alloc, head, place)?),
-    }
-}
+impl Conjunct for Effect {
+    ghost use Rattle.wp_syntax.specs.Effects.{plain_effect_of};
 
-/// An effect: its adds and deletes go behind those of `out`, in the order of the text.
-#[cycle(effects)]
-pub fn effect(alloc: Global, node: Node<'_>, out: &mut Vec<Effect>) -> Result<(), ReadError>
-    ensures { Adds result out.old.items out.new.items (effect_of (tree_of node.entry)) }
-{
-    let Node::List { at, inner } = node else {
-        return Err(shape(place_of(node)));
-    };
-    match next(inner) {
-        None => Ok(()),
-        Some((Node::List { at: _, inner: _ }, _)) => Err(shape(at)),
-        Some((Node::Word { text, at: place }, rest)) => {
-            if is_word(text, b"and") {
-                effects(alloc, rest, out)
-            } else {
-                plain_effect(alloc, at, text, place, rest, out)
+    ghost plain_of = { plain_effect_of };
+
+    fn plain(
+        alloc: Global,
+        at: u64,
+        head: &Text,
+        place: u64,
+        items: &[Item],
+        out: &mut Vec<Effect>,
+    ) -> Result<(), ReadError> {
+        match head_of(head) {
+            Head::Not => {
+                let atom = negated(alloc, head, place, items)?;
+                out.push(Effect { add: false, atom })?;
+                Ok(())
             }
+            Head::Name => {
+                let atom = atom(alloc, head, place, items)?;
+                out.push(Effect { add: true, atom })?;
+                Ok(())
+            }
+            Head::Other => Err(shape(at)),
+            _ => Err(unsupported(alloc, head, place)?),
         }
     }
-}
-
-#[cycle(effects)]
-fn effects(alloc: Global, items: &[Item], out: &mut Vec<Effect>) -> Result<(), ReadError>
-    ensures { Adds result out.old.items out.new.items (effects_of (trees_of items.now)) }
-{
-    let mut rest = items;
-    while let Some((node, after)) = next(rest) {
-        effect(alloc, node, out)?;
-        rest = after;
-    }
-    Ok(())
 }
 
 // PDDL's timed literal: `at`, a number, and a list.

@@ -1,6 +1,7 @@
 //! The faults of a text that is a tree but no PDDL, or whose names mean nothing.
 
 ghost use Rattle.std.specs.Prelude.{◌≡◌, IfOk};
+ghost use Rattle.wp_syntax.specs.declared.error.Fault.{Fault};
 
 use std::alloc::{AllocError, AllocFailed, Global};
 use thiserror::Error;
@@ -14,7 +15,7 @@ pub enum Part {
     Plan,
 }
 
-/// What is wrong. Readers answer the first four and `TooMany`; the others are faults of names.
+/// What is wrong. Readers answer the first four and `TooMany`, by way of `ReadKind`; the others are faults of names.
 #[derive(Debug, Drop)]
 pub enum PddlKind {
     /// The grammar has no such item there, or an item is missing from the list.
@@ -65,11 +66,38 @@ impl From<AllocError> for PddlError {
     }
 }
 
-/// What ends a reading, before it is said in which part.
+/// What can be wrong with a tree, in the order in which it is told at one place.
+#[derive(Debug, Drop)]
+pub enum ReadKind {
+    Shape,
+    Unsupported { word: Text },
+    Reserved,
+    Duplicate,
+    TooMany { limit: u32 },
+}
+
+/// A fault of a tree, before it is said in which part.
+#[derive(Debug, Drop)]
+pub struct Fault {
+    pub kind: ReadKind,
+    pub at: u64,
+}
+
+/// What ends a reading that takes memory.
 #[derive(Debug, Drop)]
 pub enum ReadError {
-    Bad { kind: PddlKind, at: u64 },
+    Bad { fault: Fault },
     Memory,
+}
+
+impl From<Fault> for ReadError {
+    ghost use Rattle.wp_syntax.specs.declared.error.ReadError.TheVariants.{Bad};
+
+    ghost from_gives = { λ fault e. e ≡ Bad fault };
+
+    fn from(fault: Fault) -> ReadError {
+        ReadError::Bad { fault }
+    }
 }
 
 impl From<AllocError> for ReadError {
@@ -92,21 +120,31 @@ impl<T: Drop> From<AllocFailed<T>> for ReadError {
     }
 }
 
-pub fn bad(kind: PddlKind, at: u64) -> ReadError
-    ensures { result ≡ ReadError.Bad kind at }
+/// The fault of a kind at a place.
+pub fn wrong(kind: ReadKind, at: u64) -> Fault
+    ensures { result ≡ (let fault : Fault = record { kind = kind; at = at } in fault) }
 {
-    ReadError::Bad { kind, at }
+    Fault { kind, at }
+}
+
+/// The fault of a kind at a place, as what ends a reading.
+pub fn bad(kind: ReadKind, at: u64) -> ReadError
+    ensures { result ≡ ReadError.Bad (record { kind = kind; at = at }) }
+{
+    ReadError::Bad {
+        fault: wrong(kind, at),
+    }
 }
 
 pub fn shape(at: u64) -> ReadError
-    ensures { result ≡ ReadError.Bad PddlKind.Shape at }
+    ensures { result ≡ ReadError.Bad (record { kind = ReadKind.Shape; at = at }) }
 {
-    bad(PddlKind::Shape, at)
+    bad(ReadKind::Shape, at)
 }
 
 pub fn unsupported(alloc: Global, word: &Text, at: u64) -> Result<ReadError, AllocError>
-    ensures { IfOk result (λ error. error ≡ ReadError.Bad (PddlKind.Unsupported word.now) at) }
+    ensures { IfOk result (λ error. error ≡ ReadError.Bad (record { kind = ReadKind.Unsupported word.now; at = at })) }
 {
     let word = word.copy(alloc)?;
-    Ok(bad(PddlKind::Unsupported { word }, at))
+    Ok(bad(ReadKind::Unsupported { word }, at))
 }

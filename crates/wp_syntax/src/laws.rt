@@ -1,7 +1,8 @@
 //! What holds of the definitions alone.
 
 ghost use Rattle.wp_syntax.specs.Laws.{DomainsAreNamed, ProblemsAreNamed};
-ghost use Rattle.wp_syntax.specs.Walk.{DomainFaultsWalk, ProblemFaultsWalk};
+ghost use Rattle.wp_syntax.specs.Walk.{DomainFaultsWalk, FirstFaultsAreLeast, ProblemFaultsWalk};
+ghost use Rattle.wp_syntax.specs.Grammatical.{PhrasesAreGrammatical, TextsAreGrammatical};
 
 use wp_lex::{leaves_are_words, texts_rise};
 
@@ -19,6 +20,13 @@ pub fn problem_faults_walk()
     texts_rise();
 }
 
+/// The first fault is the least by place and kind of all: so it is what a walk through the tree meets first.
+pub fn first_faults_are_least()
+    ensures { FirstFaultsAreLeast }
+{
+    texts_rise();
+}
+
 /// The names that a domain without a fault declares are words of its text, and no two of its actions have one name.
 pub fn domains_are_named()
     ensures { DomainsAreNamed }
@@ -32,3 +40,14 @@ pub fn problems_are_named()
 {
     leaves_are_words();
 }
+
+/// A condition, a goal, an effect or a fact of `:init` is read without a fault exactly where the grammar has it.
+pub fn phrases_are_grammatical()
+    ensures { PhrasesAreGrammatical }
+{}
+
+/// A domain or a problem is read without a fault exactly where the grammar has it. So no record that is answered has more than its
+/// limits, and what may stand once stands once.
+pub fn texts_are_grammatical()
+    ensures { TextsAreGrammatical }
+{}

@@ -10,12 +10,14 @@
 mod action;
 mod atom;
 mod cond;
+mod conjunction;
 mod domain;
 mod effect;
 mod error;
 mod goal;
 mod laws;
 mod lists;
+mod named;
 mod outline;
 mod predicate;
 mod problem;
@@ -25,7 +27,10 @@ mod typing;
 mod word;
 
 pub use error::{Part, PddlError, PddlKind};
-pub use laws::{domain_faults_walk, domains_are_named, problem_faults_walk, problems_are_named};
+pub use laws::{
+    domain_faults_walk, domains_are_named, first_faults_are_least, phrases_are_grammatical,
+    problem_faults_walk, problems_are_named, texts_are_grammatical,
+};
 pub use lists::{
     ActionTexts, AtomTexts, Conds, Effects, InitItems, Kinds, Names, PredTexts, TypedList,
 };

@@ -4,10 +4,11 @@ ghost use Rattle.std.specs.Prelude.{◌≡◌};
 ghost use Rattle.wp_lex.specs.Node.{tree_of};
 ghost use Rattle.wp_lex.specs.Trees.{trees_of};
 ghost use Rattle.wp_syntax.specs.Reading.{Gives, Passes};
-ghost use Rattle.wp_syntax.specs.Outline.{Outlines, inside_of, outline_of, end_of, name_of, only_name_of, title_of, flag_of, flags_of};
+ghost use Rattle.wp_syntax.specs.Steps.{Outlines};
+ghost use Rattle.wp_syntax.specs.Outline.{inside_of, outline_of, end_of, name_of, only_name_of, title_of, flag_of, flags_of};
 
 use crate::atom::{name, place_of};
-use crate::error::{ReadError, shape};
+use crate::error::{Fault, ReadError, ReadKind, shape, wrong};
 use crate::records::Name;
 use crate::word::{is_keyword, is_name, is_word};
 use std::alloc::Global;
@@ -21,45 +22,45 @@ pub struct Outline<'a> {
     pub rest: &'a [Item],
 }
 
-fn inside(at: u64, items: &[Item]) -> Result<Outline<'_>, ReadError>
+fn inside(at: u64, items: &[Item]) -> Result<Outline<'_>, Fault>
     ensures { Outlines result (inside_of at (trees_of items.now)) }
 {
     let Some((Node::Word { text, at: _ }, after)) = next(items) else {
-        return Err(shape(at));
+        return Err(wrong(ReadKind::Shape, at));
     };
     let Some((title, rest)) = next(after) else {
-        return Err(shape(at));
+        return Err(wrong(ReadKind::Shape, at));
     };
     if is_word(text, b"define") {
         Ok(Outline { at, title, rest })
     } else {
-        Err(shape(at))
+        Err(wrong(ReadKind::Shape, at))
     }
 }
 
 /// The outer list of a text, whose first word is `define`.
-pub fn outer_list(items: &[Item]) -> Result<Outline<'_>, ReadError>
+pub fn outer_list(items: &[Item]) -> Result<Outline<'_>, Fault>
     ensures { Outlines result (outline_of (trees_of items.now)) }
 {
     let Some((node, after)) = next(items) else {
-        return Err(shape(0));
+        return Err(wrong(ReadKind::Shape, 0));
     };
     let Node::List { at, inner } = node else {
-        return Err(shape(place_of(node)));
+        return Err(wrong(ReadKind::Shape, place_of(node)));
     };
     match next(after) {
         None => inside(at, inner),
-        Some(_) => Err(shape(at)),
+        Some(_) => Err(wrong(ReadKind::Shape, at)),
     }
 }
 
 /// Nothing more stands there.
-pub fn end(items: &[Item]) -> Result<(), ReadError>
+pub fn end(items: &[Item]) -> Result<(), Fault>
     ensures { Passes result (end_of (trees_of items.now)) }
 {
     match next(items) {
         None => Ok(()),
-        Some((node, _)) => Err(shape(place_of(node))),
+        Some((node, _)) => Err(wrong(ReadKind::Shape, place_of(node))),
     }
 }
 
@@ -103,7 +104,7 @@ pub fn title(alloc: Global, word: &[u8], node: Node<'_>) -> Result<Name, ReadErr
     only_name(alloc, at, rest)
 }
 
-fn flag(node: Node<'_>) -> Result<(), ReadError>
+fn flag(node: Node<'_>) -> Result<(), Fault>
     ensures { Passes result (flag_of (tree_of node.entry)) }
 {
     match node {
@@ -111,15 +112,15 @@ fn flag(node: Node<'_>) -> Result<(), ReadError>
             if is_keyword(text) {
                 Ok(())
             } else {
-                Err(shape(at))
+                Err(wrong(ReadKind::Shape, at))
             }
         }
-        Node::List { at, inner: _ } => Err(shape(at)),
+        Node::List { at, inner: _ } => Err(wrong(ReadKind::Shape, at)),
     }
 }
 
 /// Words that begin with a colon. Their names are not asked for: the planner has what it has.
-pub fn flags(items: &[Item]) -> Result<(), ReadError>
+pub fn flags(items: &[Item]) -> Result<(), Fault>
     ensures { Passes result (flags_of (trees_of items.now)) }
 {
     let mut rest = items;

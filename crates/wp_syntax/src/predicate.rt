@@ -4,11 +4,12 @@ ghost use Rattle.std.specs.Prelude.{◌≡◌, []};
 ghost use Rattle.wp_lex.specs.Node.{tree_of};
 ghost use Rattle.wp_lex.specs.Trees.{trees_of};
 ghost use Rattle.wp_syntax.specs.Reading.{Adds, Gives, Passes};
-ghost use Rattle.wp_syntax.specs.Predicates.{is_declared, declared_of, declaration_of, pred_of, preds_of};
+ghost use Rattle.wp_syntax.specs.Predicates.{declared_of, declaration_of, pred_of, preds_of};
 
 use crate::atom::{name, place_of};
-use crate::error::{PddlKind, ReadError, bad, shape};
+use crate::error::{Fault, ReadError, ReadKind, shape, wrong};
 use crate::lists::PredTexts;
+use crate::named::{MOST_DECLARED, has_named};
 use crate::records::PredText;
 use crate::typing::{Role, typed_list};
 use crate::word::{is_name, is_reserved};
@@ -16,26 +17,23 @@ use std::alloc::Global;
 use wp_edge::Text;
 use wp_lex::{Item, Node, next};
 
-fn is_declared(text: &Text, preds: &[PredText]) -> bool
-    ensures { result ≡ is_declared text.now preds.now }
-{
-    preds
-        .iter()
-        .any(|pred| pred.name.text.as_slice() == text.as_slice())
-}
-
 // A name that may be declared after those before it.
-fn declared(before: &[PredText], text: &Text, at: u64) -> Result<(), ReadError>
+fn declared(before: &[PredText], text: &Text, at: u64) -> Result<(), Fault>
     ensures { Passes result (declared_of before.now text.now at) }
 {
     if is_reserved(text) {
-        return Err(bad(PddlKind::Reserved, at));
+        return Err(wrong(ReadKind::Reserved, at));
     }
-    if is_declared(text, before) {
-        return Err(bad(PddlKind::Duplicate, at));
+    if has_named(text, before) {
+        return Err(wrong(ReadKind::Duplicate, at));
     }
-    if before.len() >= 4096 {
-        return Err(bad(PddlKind::TooMany { limit: 4096 }, at));
+    if before.len() >= MOST_DECLARED as usize {
+        return Err(wrong(
+            ReadKind::TooMany {
+                limit: MOST_DECLARED,
+            },
+            at,
+        ));
     }
     Ok(())
 }

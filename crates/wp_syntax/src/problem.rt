@@ -7,9 +7,9 @@ ghost use Rattle.wp_syntax.specs.Reading.{Gives, Passes, Turns};
 ghost use Rattle.wp_syntax.specs.Problems.{no_entries, domain_name_of, only_goal_of, goal_entry_of, headed_entry_of, entry_of, entries_of, complete_of, complete_entries_of, listed_of, problem_from};
 
 use crate::atom::place_of;
+use crate::conjunction::conjunction;
 use crate::effect::facts;
-use crate::error::{PddlKind, ReadError, bad, shape, unsupported};
-use crate::goal::goal;
+use crate::error::{Fault, ReadError, ReadKind, bad, shape, unsupported, wrong};
 use crate::lists::{AtomTexts, InitItems, TypedList};
 use crate::outline::{end, flags, only_name, outer_list, title};
 use crate::records::{Name, Problem};
@@ -42,7 +42,7 @@ fn domain_name(
         return Err(shape(at));
     };
     if so_far.domain {
-        return Err(bad(PddlKind::Duplicate, at));
+        return Err(bad(ReadKind::Duplicate, at));
     }
     let _name = only_name(alloc, at, items)?;
     so_far.domain = true;
@@ -54,7 +54,7 @@ fn only_goal(alloc: Global, node: Node<'_>, items: &[Item]) -> Result<AtomTexts,
     ensures { Gives result (only_goal_of (tree_of node.entry) (trees_of items.now)) }
 {
     let mut atoms = Vec::new(alloc);
-    goal(alloc, node, &mut atoms)?;
+    conjunction(alloc, node, &mut atoms)?;
     end(items)?;
     Ok(AtomTexts::of_vec(atoms))
 }
@@ -66,7 +66,7 @@ fn goal_entry(alloc: Global, so_far: &mut Entries, at: u64, items: &[Item]) -> R
         return Err(shape(at));
     };
     if so_far.goal.is_some() {
-        return Err(bad(PddlKind::Duplicate, at));
+        return Err(bad(ReadKind::Duplicate, at));
     }
     so_far.goal = Some(only_goal(alloc, node, rest)?);
     Ok(())
@@ -87,7 +87,7 @@ fn headed_entry(
         ItemHead::Domain => domain_name(alloc, so_far, at, items),
         ItemHead::Requirements => {
             if so_far.requirements {
-                return Err(bad(PddlKind::Duplicate, at));
+                return Err(bad(ReadKind::Duplicate, at));
             }
             flags(items)?;
             so_far.requirements = true;
@@ -95,14 +95,14 @@ fn headed_entry(
         }
         ItemHead::Objects => {
             if so_far.objects.is_some() {
-                return Err(bad(PddlKind::Duplicate, at));
+                return Err(bad(ReadKind::Duplicate, at));
             }
             so_far.objects = Some(typed_list(alloc, Role::Names, items)?);
             Ok(())
         }
         ItemHead::Init => {
             if so_far.init.is_some() {
-                return Err(bad(PddlKind::Duplicate, at));
+                return Err(bad(ReadKind::Duplicate, at));
             }
             so_far.init = Some(facts(alloc, items)?);
             Ok(())
@@ -144,11 +144,11 @@ fn all_entries(alloc: Global, items: &[Item]) -> Result<Entries, ReadError>
 }
 
 // What must be there, in the list at a place.
-fn complete(at: u64, entries: &Entries) -> Result<(), ReadError>
+fn complete(at: u64, entries: &Entries) -> Result<(), Fault>
     ensures { Passes result (complete_of at entries.now) }
 {
     if entries.init.is_none() || entries.goal.is_none() {
-        return Err(shape(at));
+        return Err(wrong(ReadKind::Shape, at));
     }
     Ok(())
 }

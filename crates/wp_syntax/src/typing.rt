@@ -3,12 +3,14 @@
 ghost use Rattle.std.specs.Prelude.{◌≡◌, ◌≤◌, ◌++◌, ◌∷◌, length, [], IfOk, OnOk};
 ghost use Rattle.wp_lex.specs.Node.{tree_of};
 ghost use Rattle.wp_lex.specs.Trees.{Then, trees_of};
-ghost use Rattle.wp_syntax.specs.Reading.{Adds, Gives, GoesOn, Passes};
-ghost use Rattle.wp_syntax.specs.Typing.{is_named, is_typed, with_kinds, limit_of, GivesKinds, GoesBehind, word_of, kind_of, kinds_of, either_of, typed_of, typed_from};
+ghost use Rattle.wp_syntax.specs.Reading.{Adds, Gives, Passes};
+ghost use Rattle.wp_syntax.specs.Steps.{GivesKinds, GoesBehind, GoesOn, typed_from};
+ghost use Rattle.wp_syntax.specs.Typing.{with_kinds, limit_of, word_of, kind_of, kinds_of, either_of, typed_of};
 
 use crate::atom::{name, place_of};
-use crate::error::{PddlKind, ReadError, bad, shape};
+use crate::error::{Fault, ReadError, ReadKind, shape, wrong};
 use crate::lists::{Kinds, Names, TypedList};
+use crate::named::{MOST_PARAMS, has_named};
 use crate::records::{Name, Typed};
 use crate::word::{is_dash, is_name, is_variable, is_word};
 use std::alloc::{AllocError, Global};
@@ -35,33 +37,19 @@ pub struct TypedSoFar {
     pub group: Vec<Name>,
 }
 
-fn is_typed(text: &Text, done: &[Typed]) -> bool
-    ensures { result ≡ is_typed text.now done.now }
-{
-    done.iter()
-        .any(|typed| typed.name.text.as_slice() == text.as_slice())
-}
-
-fn is_named(text: &Text, names: &[Name]) -> bool
-    ensures { result ≡ is_named text.now names.now }
-{
-    names
-        .iter()
-        .any(|name| name.text.as_slice() == text.as_slice())
-}
-
 // One more parameter is within the limit.
-fn within(done: &[Typed], group: &[Name], at: u64) -> Result<(), ReadError>
+fn within(done: &[Typed], group: &[Name], at: u64) -> Result<(), Fault>
     ensures { Passes result (limit_of done.now group.now at) }
 {
-    if done.len() < 32 && group.len() < 32 - done.len() {
+    let most = MOST_PARAMS as usize;
+    if done.len() < most && group.len() < most - done.len() {
         Ok(())
     } else {
-        Err(bad(PddlKind::TooMany { limit: 32 }, at))
+        Err(wrong(ReadKind::TooMany { limit: MOST_PARAMS }, at))
     }
 }
 
-fn word(role: Role, done: &[Typed], group: &[Name], text: &Text, at: u64) -> Result<(), ReadError>
+fn word(role: Role, done: &[Typed], group: &[Name], text: &Text, at: u64) -> Result<(), Fault>
     ensures { Passes result (word_of role done.now group.now text.now at) }
 {
     match role {
@@ -69,21 +57,21 @@ fn word(role: Role, done: &[Typed], group: &[Name], text: &Text, at: u64) -> Res
             if is_name(text) {
                 Ok(())
             } else {
-                Err(shape(at))
+                Err(wrong(ReadKind::Shape, at))
             }
         }
         Role::Predicate => {
             if !is_variable(text) {
-                return Err(shape(at));
+                return Err(wrong(ReadKind::Shape, at));
             }
             within(done, group, at)
         }
         Role::Action => {
             if !is_variable(text) {
-                return Err(shape(at));
+                return Err(wrong(ReadKind::Shape, at));
             }
-            if is_typed(text, done) || is_named(text, group) {
-                return Err(bad(PddlKind::Duplicate, at));
+            if has_named(text, done) || has_named(text, group) {
+                return Err(wrong(ReadKind::Duplicate, at));
             }
             within(done, group, at)
         }

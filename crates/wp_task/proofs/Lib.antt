@@ -7,6 +7,9 @@ pub mod TaskLemmas
 pub mod FlatLemmas
 pub mod PlanLemmas
 pub mod WordLemmas
+pub mod LaneLemmas
+pub mod MissingLemmas
+pub mod RangeLemmas
 pub mod Members
 pub mod NoveltyLemmas
 mod Rows

@@ -39,7 +39,7 @@ with_bit now before p here others q = ⊎_elim
     (λ (other : q ≡ p → ⊥). others q other ∙ (sym (or-false (before q)) ∙ ap (λ b. before q || b) (sym (ne_eqb p q (λ same. other (sym same))))))
     (cases_eq q p)
 
-and-true : (b : Bool) → (b && true) ≡ b
+pub and-true : (b : Bool) → (b && true) ≡ b
 and-true b = elim b as (λ v. (v && true) ≡ v) [ true ↦ refl | false ↦ refl ]
 
 and-false : (b : Bool) → (b && false) ≡ false

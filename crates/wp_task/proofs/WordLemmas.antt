@@ -79,7 +79,7 @@ words_of-flags_in words size packed fit =
     ∙ ap (λ n. map (word_of (flags_in words size)) (range_with_len 0 ((n + 63) / 64))) (sym (length-flags_in words size))
 
 -- two tests that pass together are one
-same_test : (x y : Bool) → (x ≡ true → y ≡ true) → (y ≡ true → x ≡ true) → x ≡ y
+pub same_test : (x y : Bool) → (x ≡ true → y ≡ true) → (y ≡ true → x ≡ true) → x ≡ y
 same_test x y to from = ⊎_elim
     (λ (passes : x ≡ true). passes ∙ sym (to passes))
     (λ (fails : x ≡ false). fails ∙ sym (false_from_ne_true y (λ (passes : y ≡ true). both_ways x fails (from passes))))

@@ -3,4 +3,5 @@ pub mod Packing
 pub mod Task
 pub mod Novelty
 pub mod Flat
+pub mod Many
 pub mod Keeping

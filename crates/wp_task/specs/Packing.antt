@@ -1,7 +1,9 @@
 -- How a set of atoms lies in words of 64 bits: the flag of atom p is bit p % 64 of word p / 64.
 use Rattle.std.specs.Prelude.{◌≡◌, ◌==◌, ℕ, ◌+◌, ◌*◌, ◌/◌, ◌%◌, ◌^◌, ◌<◌, ◌≤◌, Bool, true, false, List, length, map, slice_index, if◌then◌else◌}
 use Rattle.std.specs.List.{range_with_len, sum_by}
-use Rattle.std.specs.Int.{bit_at}
+use Rattle.std.specs.Int.{w64, bit_at, bit_not}
+use Rattle.std.specs.Int.Bits.{bit_and}
+use Rattle.std.specs.Int.RustNames.{count_ones}
 use Rattle.std.specs.Hash.{HashWrites, slice, u64}
 use Rattle.wp_task.specs.Set.{has}
 
@@ -17,6 +19,10 @@ flags_in words size = map (bit_in words) (range_with_len 0 size)
 pub record IsPacked (words : List ℕ) (size : ℕ) : Type 0 where
   pub room : length words ≡ (size + 63) / 64
   pub spare : (p : ℕ) → size ≤ p → bit_in words p ≡ false
+
+-- how many bits are set in the wanted word and not in the other
+abbrev pub missing_in : ℕ → ℕ → ℕ
+missing_in word wanted = count_ones (bit_and wanted (bit_not w64 word))
 
 -- the least set bit of a word from a place on
 pub record IsLeastBit (word from bit : ℕ) : Type 0 where

@@ -11,6 +11,8 @@ pub mod acts;
 pub mod atoms;
 mod bits;
 mod flat;
+mod lanes;
+mod many;
 pub mod novelty;
 mod places;
 pub mod state;

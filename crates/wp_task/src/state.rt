@@ -1,9 +1,10 @@
 //! States: sets of atoms.
-ghost use Rattle.std.specs.Prelude.{◌≡◌, ◌==◌, ◌&&◌, ◌||◌, not, ℕ, ◌+◌, ◌^◌, ◌<◌, ◌≤◌, true, false, length, replicate, IfOk, IfSome, IfNone, All};
+ghost use Rattle.std.specs.Prelude.{◌≡◌, ◌==◌, ◌&&◌, ◌||◌, not, ℕ, ◌+◌, ◌^◌, ◌<◌, ◌≤◌, true, false, length, replicate, count_by, IfOk, IfSome, IfNone, All};
+ghost use Rattle.std.specs.List.{list_all};
 ghost use Rattle.wp_task.specs.Set.{has, lists, atoms_in, set_of, IsNext};
 
 use crate::atoms::Atoms;
-use crate::bits;
+use crate::{bits, lanes};
 use std::alloc::{AllocError, Global};
 use std::hash::{Hash, Hasher};
 use std::marker::Model;
@@ -138,6 +139,27 @@ impl State {
         }
     }
 
+    /// Whether the set has all atoms of another one.
+    pub(crate) fn has_all(&self, atoms: &State) -> bool
+        requires { length atoms.now ≡ length self.now }
+        ensures { result ≡ list_all (has self.now) (atoms_in atoms.now) }
+    {
+        let words = self.words.as_slice();
+        let wanted = atoms.words.as_slice();
+        lanes::covers(words, wanted)
+    }
+
+    /// How many atoms of another set are not in this one.
+    pub(crate) fn count_missing(&self, atoms: &State) -> u64
+        requires { length atoms.now ≡ length self.now }
+        ensures { result ≡ count_by (λ p. not (has self.now p)) (atoms_in atoms.now) }
+    {
+        let _size = self.size;
+        let words = self.words.as_slice();
+        let wanted = atoms.words.as_slice();
+        lanes::count_missing(words, wanted)
+    }
+
     /// An equal state.
     pub fn copy(&self, alloc: Global) -> Result<State, AllocError>
         ensures { IfOk result (λ copy. copy ≡ self.now) }
@@ -164,7 +186,7 @@ impl PartialEq for State {
     fn eq(&self, other: &State) -> bool {
         let words = self.words.as_slice();
         let others = other.words.as_slice();
-        self.size == other.size && words == others
+        self.size == other.size && lanes::equal(words, others)
     }
 }
 

@@ -1,9 +1,13 @@
 //! What a task keeps of its actions in flat arrays.
 ghost use Rattle.std.specs.Prelude.{◌≡◌, ◌<◌, ◌^◌, length, map, IfOk, All};
+ghost use Rattle.wp_task.specs.Task.{IsAct};
+ghost use Rattle.wp_task.specs.Many.{AreNeedSets};
 
 use crate::acts::Acts;
 use crate::atoms::Atoms;
 use crate::flat::Flat;
+use crate::many::set_of_many;
+use crate::state::State;
 use std::alloc::{AllocError, Global};
 
 /// The preconditions of the actions.
@@ -38,6 +42,23 @@ pub(crate) fn need_counts(alloc: Global, acts: &Acts) -> Result<Vec<u32>, AllocE
         counts.push(act.pre.as_slice().len() as u32)?;
     }
     Ok(counts)
+}
+
+/// For each action the set of its preconditions, where they are many.
+pub(crate) fn need_sets(
+    alloc: Global,
+    acts: &Acts,
+    atoms: u32,
+) -> Result<Vec<Option<Box<State>>>, AllocError>
+    requires { All (IsAct atoms) acts.now }
+    ensures { IfOk result (λ sets. AreNeedSets sets.items acts.now) }
+{
+    let mut sets = Vec::with_capacity(alloc, acts.as_slice().len())?;
+    for act in acts.as_slice() {
+        let set = set_of_many(alloc, &act.pre, atoms)?;
+        sets.push(set)?;
+    }
+    Ok(sets)
 }
 
 /// The same lists, one after another.

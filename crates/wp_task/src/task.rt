@@ -1,7 +1,6 @@
 //! Tasks: what is given, and what an action and a plan do in it.
-ghost use Rattle.std.specs.Prelude.{◌≡◌, ℕ, ◌<◌, ◌≤◌, length, map, not, count_by, IfOk, All};
-ghost use Rattle.std.specs.List.{list_all};
-ghost use Rattle.wp_task.specs.Set.{has, AreAtoms};
+ghost use Rattle.std.specs.Prelude.{◌≡◌, ℕ, ◌<◌, ◌≤◌, length, map, IfOk, All};
+ghost use Rattle.wp_task.specs.Set.{AreAtoms};
 ghost use Rattle.wp_task.specs.Task.{act_at, applies, result_of, goal_counter, adders_of, needers_of, is_plan, IsAct, IsTask};
 
 use crate::acts::{Act, Acts};
@@ -9,12 +8,12 @@ use crate::atoms::Atoms;
 use crate::flat::Flat;
 use crate::places::places_by_number;
 use crate::state::State;
-use crate::tables;
+use crate::{many, tables};
 use std::alloc::{AllocError, Global};
 use std::marker::Model;
 
-/// A planning task, with the lists of the actions that add it and of those that need it for each atom, and with what is
-/// asked most of its actions in flat arrays.
+/// A planning task, with the lists of the actions that add it and of those that need it for each atom, with what is
+/// asked most of its actions in flat arrays, and with sets of preconditions and goals where these are many.
 #[derive(Drop)]
 pub struct Task {
     atoms: u32,
@@ -26,6 +25,8 @@ pub struct Task {
     pre: Flat,
     add: Flat,
     need_counts: Vec<u32>,
+    need_sets: Vec<Option<Box<State>>>,
+    goal_set: Option<Box<State>>,
 }
 
 impl Model for Task {
@@ -55,6 +56,8 @@ impl Task {
         let pre = tables::preconditions(alloc, &acts)?;
         let add = tables::add_effects(alloc, &acts)?;
         let need_counts = tables::need_counts(alloc, &acts)?;
+        let need_sets = tables::need_sets(alloc, &acts, atoms)?;
+        let goal_set = many::set_of_many(alloc, &goals, atoms)?;
         let adders = places_by_number(alloc, atoms, &add)?;
         let needers = tables::flattened(alloc, &places_by_number(alloc, atoms, &pre)?)?;
         Ok(Task {
@@ -67,6 +70,8 @@ impl Task {
             pre,
             add,
             need_counts,
+            need_sets,
+            goal_set,
         })
     }
 
@@ -159,7 +164,7 @@ impl Task {
         requires { a < length self.now.acts }
         ensures { result ≡ applies (act_at self.now.acts a) s.now }
     {
-        has_all(s, self.pre(a))
+        many::has_all(s, self.pre(a), &self.need_sets[a as usize])
     }
 
     /// The state that the action leads to.
@@ -180,7 +185,7 @@ impl Task {
     pub fn unmet_goals(&self, s: &State) -> u32
         ensures { result ≡ goal_counter self.now.goals s.now }
     {
-        count_missing(s, &self.goals) as u32
+        many::count_missing(s, self.goals.as_slice(), &self.goal_set) as u32
     }
 
     /// Whether the actions are a plan: each is one of the task and applies in its turn from the opening state, and
@@ -195,20 +200,6 @@ impl Task {
             }
             state = self.apply(alloc, &state, *a)?;
         }
-        Ok(has_all(&state, self.goals.as_slice()))
+        Ok(many::has_all(&state, self.goals.as_slice(), &self.goal_set))
     }
-}
-
-/// Whether all the atoms are in the state.
-fn has_all(s: &State, atoms: &[u32]) -> bool
-    ensures { result ≡ list_all (has s.now) atoms.now }
-{
-    atoms.iter().all(|p| s.has(*p))
-}
-
-/// How many of the atoms are not in the state.
-fn count_missing(s: &State, atoms: &Atoms) -> usize
-    ensures { result ≡ count_by (λ p. not (has s.now p)) atoms.now }
-{
-    atoms.as_slice().iter().filter(|p| !s.has(**p)).count()
 }

@@ -17,13 +17,14 @@ search_from-requires-clause-opens g c =
     c.of-asked.ensures ∙ (λ j. (let a : Asked = record { task = task; settings = settings; tuples = tuples j } in a)) in
     let own = c.in_ok-own.own in
     let s = c.in_ok-store.store in
-    let run = c.in_ok-store.ensures.1 ∙ c.in_ok-own.ensures in (
+    let run = c.in_ok-store.ensures.run ∙ c.in_ok-own.ensures in (
       record {
         same = run ∙ sym asked;
         all = subst (λ (a : Asked). a.tuples ≡ all_tuples a.task a.settings) (sym run) refl;
+        works = c.in_ok-store.ensures.works;
       },
       subst (λ (a : Asked). StandsAt s.run.task s.run.settings s.searched s.tables (opening a.task a.settings)) (c.in_ok-own.ensures ∙ sym asked)
-          (subst (λ (a : Asked). StandsAt a.task a.settings s.searched s.tables (opening own.task own.settings)) (sym c.in_ok-store.ensures.1) c.in_ok-store.ensures.0),
+          (subst (λ (a : Asked). StandsAt a.task a.settings s.searched s.tables (opening own.task own.settings)) (sym c.in_ok-store.ensures.run) c.in_ok-store.ensures.stands),
     )
 
 pub returns-clause-answers : goal.returns-clause-answers

@@ -1,9 +1,8 @@
-use Rattle.std.proofs.Common.{◌++◌, map, refl, ap, ◌∙◌, subst}
+use Rattle.std.proofs.Common.{◌++◌, refl, ap, ◌∙◌, subst}
 use Rattle.wp_tuples.specs.TuplePlaces.{Indexed}
 use Rattle.wp_novel.specs.StandsFor.{StandsFor}
 use Rattle.wp_plain.specs.Nodes.{generated_in}
 use Rattle.wp_plain.specs.Explored.{all_numbered}
-use Rattle.wp_commit.specs.Newborns.{birth_of}
 use Rattle.wp_commit.specs.Expansions.{brood_of}
 use Rattle.wp_commit.proofs.ExpansionLemmas.{all-open, in_hand, laws_of, last-before, newborns-here, sizes-fit}
 use Rattle.wp_commit.proofs.births.enter.Goals as goal
@@ -18,7 +17,10 @@ number_all-requires-clause-open g c =
     let taken = c.requires.taken in
     all-open a.task a.settings s tables c.args.number e.node (brood_of a.task s.nodes e.node) x.fresh.items x.pairs.items
     (in_hand a.task s tables c.args.number x (laws_of c.counters_are_carried.ensures.children c.children_are_numbered.ensures c.nodes_are_numbered.ensures) e) taken.0 taken.1 taken.2
-    c.open_all.new.tables.tables c.in_ok-open_all.ensures.keys
+    c.open_all.new.tables c.in_ok-open_all.ensures.pairs
+
+pub open_all-requires-clause-home : goal.open_all-requires-clause-home
+open_all-requires-clause-home g c = c.requires.taken.2.holds.words.home
 
 pub number_all-requires-clause-sizes : goal.number_all-requires-clause-sizes
 number_all-requires-clause-sizes g c =
@@ -51,16 +53,17 @@ returns g c m node at =
     let tables = c.args.tables.now in
     let x = c.args.expansion in
     let e = c.requires.evaluated in
-    let births = c.in_ok-open_all.ensures.stands (map birth_of (generated_in m.nodes)) at.holds.words.births in
+    let births = c.in_ok-open_all.ensures.stands (generated_in m.nodes) at.holds.words.births in
     let width = ap (λ (i : Indexed). i.width) (c.in_ok-open_all.ensures.index ∙ at.holds.words.index) in
     record {
       newborns = newborns-here a.task a.settings s tables c.args.number e.node (brood_of a.task s.nodes e.node) x.fresh.items x.pairs.items
           (in_hand a.task s tables c.args.number x (laws_of c.counters_are_carried.ensures.children c.children_are_numbered.ensures c.nodes_are_numbered.ensures) e) m node at
           c.open_all.new.tables.index.width c.in_ok-newborns.newborns.items width (c.in_ok-newborns.ensures.newborns (generated_in m.nodes) births);
       repeats = refl;
-      births = subst (λ i. StandsFor c.number_all.new.tables (map birth_of (generated_in m.nodes ++ all_numbered i x.fresh.items))) at.holds.counts.numbered
+      births = subst (λ i. StandsFor c.number_all.new.tables (generated_in m.nodes ++ all_numbered i x.fresh.items)) at.holds.counts.numbered
           (c.in_ok-newborns.ensures.stands (generated_in m.nodes) births);
-      keys = c.in_ok-newborns.ensures.keys ∙ c.in_ok-open_all.ensures.keys;
+      pairs = c.in_ok-newborns.ensures.pairs ∙ c.in_ok-open_all.ensures.pairs;
+      home = c.in_ok-newborns.ensures.home;
       index = c.in_ok-newborns.ensures.index ∙ c.in_ok-open_all.ensures.index;
       limit = c.in_ok-newborns.ensures.limit ∙ c.in_ok-open_all.ensures.limit;
     }

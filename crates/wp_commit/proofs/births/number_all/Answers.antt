@@ -1,68 +1,61 @@
-use Rattle.std.proofs.Common.{◌≡◌, ◌<◌, ◌^◌, ◌++◌, List, IfSome, length, map, get_or, sym, ap, ◌∙◌, subst}
+use Rattle.std.proofs.Common.{◌≡◌, ◌<◌, ◌^◌, IfSome, length, sym, ap, ◌∙◌, subst}
 use Rattle.std.specs.List.{All, AllPairs}
-use Rattle.std.proofs.lemmas.List.{map-append, length-map}
-use Rattle.std.proofs.lemmas.Result.{IfOk-weaker}
+use Rattle.std.proofs.lemmas.List.{length-map}
+use Rattle.std.proofs.lemmas.List.Elements.{All-weaker}
 use Rattle.wp_task.specs.Novelty.{Generated}
-use Rattle.wp_count.specs.declared.brood.Child.{Child}
 use Rattle.wp_tuples.specs.TuplePlaces.{Indexed}
-use Rattle.wp_novel.specs.Births.{Birth}
-use Rattle.wp_novel.specs.NoveltyTables.{IsOpen}
-use Rattle.wp_novel.specs.StandsFor.{StandsFor}
-use Rattle.wp_novel.proofs.TableLemmas.{open_after}
+use Rattle.wp_novel.specs.NoveltyTables.{is_among, IsOpen}
 use Rattle.wp_plain.specs.Explored.{all_numbered}
-use Rattle.wp_commit.specs.Newborns.{birth_of, rest_of, newborns_of}
-use Rattle.wp_commit.proofs.BirthLemmas.{births_from, births_open, births_sized, births_below, births_later, births_rising, length-births}
+use Rattle.wp_commit.specs.Newborns.{rest_of}
+use Rattle.wp_commit.proofs.BirthLemmas.{births_open, births_sized, births_below, births_later, births_rising}
+use Rattle.wp_commit.proofs.ConditionLemmas.{length-numbered}
 use Rattle.wp_commit.proofs.births.number_all.Goals as goal
 
-pub enter-births-requires : goal.enter-births-requires
-enter-births-requires c =
+pub mark_all-requires-clause-pairs : goal.mark_all-requires-clause-pairs
+mark_all-requires-clause-pairs g c =
     let tables = c.args.tables.now in
-    let first = c.args.first in
-    let children = c.args.children.items in
-    let back : births_from first children ≡ c.in_ok-births.births = sym c.in_ok-births.ensures.births in
-    record {
-      pairs = subst (All (λ (b : Birth). IsOpen tables.tables b.pair)) back (births_open tables.tables first children c.requires.open);
-      sizes = subst (All (λ (b : Birth). length b.state ≡ tables.index.atoms)) back (births_sized tables.index.atoms first children c.requires.sizes);
-      numbers = subst (All (λ (b : Birth). b.number < 2 ^ 63)) back (births_below first children c.requires.numbers);
-      later = subst (λ births. IfSome tables.last (λ last. All (λ (b : Birth). last < b.number) births)) back (births_later tables.last first children c.requires.later);
-      rising = subst (AllPairs (λ (x y : Birth). x.number < y.number)) back (births_rising first children);
-    }
+    subst (All (λ (b : Generated). IsOpen tables b.counters)) (sym c.in_ok-births.ensures.births)
+    (births_open tables c.args.first c.args.children.items c.requires.open)
+
+pub mark_all-requires-clause-sizes : goal.mark_all-requires-clause-sizes
+mark_all-requires-clause-sizes g c =
+    let atoms = c.args.tables.now.index.atoms in
+    subst (All (λ (b : Generated). length b.state ≡ atoms)) (sym c.in_ok-births.ensures.births) (births_sized atoms c.args.first c.args.children.items c.requires.sizes)
+
+pub mark_all-requires-clause-numbers : goal.mark_all-requires-clause-numbers
+mark_all-requires-clause-numbers g c =
+    subst (All (λ (b : Generated). b.number < 2 ^ 63)) (sym c.in_ok-births.ensures.births) (births_below c.args.first c.args.children.items c.requires.numbers)
+
+pub mark_all-requires-clause-later : goal.mark_all-requires-clause-later
+mark_all-requires-clause-later g c =
+    let last = c.args.tables.now.last in
+    subst (λ births. IfSome last (λ n. All (λ (b : Generated). n < b.number) births)) (sym c.in_ok-births.ensures.births)
+    (births_later last c.args.first c.args.children.items c.requires.later)
+
+pub mark_all-requires-clause-rising : goal.mark_all-requires-clause-rising
+mark_all-requires-clause-rising g c =
+    subst (AllPairs (λ (x y : Generated). x.number < y.number)) (sym c.in_ok-births.ensures.births) (births_rising c.args.first c.args.children.items)
 
 pub newborns_of-requires-clause-parts : goal.newborns_of-requires-clause-parts
-newborns_of-requires-clause-parts c =
+newborns_of-requires-clause-parts g c =
     let children = c.args.children.items in
-    let into = c.into_vec.ensures ∙ (c.enter-births.ensures.births ∙ c.in_ok-births.ensures.births) in
-    ap length c.in_ok-births.ensures.rests ∙ (length-map children rest_of ∙ sym (ap length into ∙ length-births c.args.first children))
+    let into = c.into_vec.ensures ∙ (c.in_ok-births-2.ensures.births ∙ c.in_ok-births.ensures.births) in
+    ap length c.in_ok-births.ensures.rests ∙ (length-map children rest_of ∙ sym (ap length into ∙ length-numbered c.args.first children))
 
 pub newborns_of-requires-clause-open : goal.newborns_of-requires-clause-open
-newborns_of-requires-clause-open c k d within =
+newborns_of-requires-clause-open g c =
     let old = c.args.tables.now in
-    let into = c.into_vec.ensures ∙ (c.enter-births.ensures.births ∙ c.in_ok-births.ensures.births) in
-    open_after old.index c.in_ok-births.births old.tables c.enter-births.new.self.tables (get_or c.into_vec.result.items k d).pair
-    c.enter-births.ensures.entered
-    (subst (All (λ (b : Birth). IsOpen old.tables b.pair)) (sym into) (births_open old.tables c.args.first c.args.children.items c.requires.open) k d within)
+    let new = c.mark_all.new.tables in
+    let children = c.args.children.items in
+    let into = c.into_vec.ensures ∙ (c.in_ok-births-2.ensures.births ∙ c.in_ok-births.ensures.births) in
+    subst (All (λ (b : Generated). IsOpen new b.counters)) (sym into)
+    (All-weaker (λ (b : Generated). IsOpen old b.counters) (λ (b : Generated). IsOpen new b.counters)
+    (λ b opened. ap (λ pairs. is_among pairs b.counters) c.in_ok-births-2.ensures.pairs ∙ opened)
+    (all_numbered c.args.first children) (births_open old c.args.first children c.requires.open))
 
 pub newborns_of-requires-clause-sizes : goal.newborns_of-requires-clause-sizes
-newborns_of-requires-clause-sizes c =
+newborns_of-requires-clause-sizes g c =
     let atoms = c.args.tables.now.index.atoms in
-    let into = c.into_vec.ensures ∙ (c.enter-births.ensures.births ∙ c.in_ok-births.ensures.births) in
-    subst (λ (i : Indexed). All (λ (b : Birth). length b.state ≡ i.atoms) c.into_vec.result.items) (sym c.enter-births.ensures.index)
-    (subst (All (λ (b : Birth). length b.state ≡ atoms)) (sym into) (births_sized atoms c.args.first c.args.children.items c.requires.sizes))
-
-pub returns-clause-newborns : goal.returns-clause-newborns
-returns-clause-newborns c =
-    let first = c.args.first in
-    let children = c.args.children.items in
-    let into = c.into_vec.ensures ∙ (c.enter-births.ensures.births ∙ c.in_ok-births.ensures.births) in
-    IfOk-weaker c.newborns_of.result
-    (λ newborns. (nodes : List Generated) (cs : List Child) → c.into_vec.result.items ≡ births_from first cs → c.in_ok-births.rests.items ≡ map rest_of cs →
-    StandsFor c.enter-births.new.self (map birth_of (nodes ++ all_numbered first cs)) →
-    newborns.items ≡ newborns_of c.enter-births.new.self.index.width (nodes ++ all_numbered first cs) first cs)
-    (λ newborns. (nodes : List Generated) → StandsFor c.args.tables.now (map birth_of nodes) →
-    newborns.items ≡ newborns_of c.args.tables.now.index.width (nodes ++ all_numbered first children) first children)
-    (λ newborns are nodes stands.
-    let more = ap (λ l. map birth_of nodes ++ l) c.in_ok-births.ensures.births ∙ sym (map-append birth_of nodes (all_numbered first children)) in
-    are nodes children into c.in_ok-births.ensures.rests
-    (subst (StandsFor c.enter-births.new.self) more (c.enter-births.ensures.stands (map birth_of nodes) stands))
-    ∙ ap (λ (i : Indexed). newborns_of i.width (nodes ++ all_numbered first children) first children) c.enter-births.ensures.index)
-    c.newborns_of.ensures.newborns
+    let into = c.into_vec.ensures ∙ (c.in_ok-births-2.ensures.births ∙ c.in_ok-births.ensures.births) in
+    subst (λ (i : Indexed). All (λ (b : Generated). length b.state ≡ i.atoms) c.into_vec.result.items) (sym c.in_ok-births-2.ensures.index)
+    (subst (All (λ (b : Generated). length b.state ≡ atoms)) (sym into) (births_sized atoms c.args.first c.args.children.items c.requires.sizes))

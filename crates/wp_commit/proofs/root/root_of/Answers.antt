@@ -1,9 +1,8 @@
 use Rattle.std.proofs.Common.{◌≡◌, ◌++◌, ◌∷◌, [], ap, ◌∙◌, subst}
 use Rattle.wp_task.specs.Task.{PlanningTask}
-use Rattle.wp_task.specs.Novelty.{novelty_of}
+use Rattle.wp_task.specs.Novelty.{Generated, novelty_of}
 use Rattle.wp_count.specs.Laws.{IsMarked}
-use Rattle.wp_novel.specs.Births.{Birth}
-use Rattle.wp_novel.specs.StandsFor.{generated_of, StandsFor}
+use Rattle.wp_novel.specs.StandsFor.{StandsFor}
 use Rattle.wp_queue.specs.OpenList.{waiting, IsWith}
 use Rattle.wp_nodes.specs.KeptNodes.{Keeping}
 use Rattle.wp_plain.specs.Steps.{Asked}
@@ -15,7 +14,7 @@ returns g c =
     let task = c.args.run.now.task in
     let settings = c.args.run.now.settings in
     let asked : c.run.inside.task.now ≡ task = ap (λ (a : Asked). a.task) c.run.view_is in
-    let tables = c.enter_root.new.tables in
+    let tables = c.mark_root.new.tables in
     let state = c.in_ok-state.state in
     let mark = c.in_ok-state.mark in
     let track = c.in_ok-state.track in
@@ -23,7 +22,7 @@ returns g c =
     let root = c.in_ok-root.root in
     let root_is : root ≡ root_birth state mark =
     c.in_ok-root.ensures
-    ∙ (λ j. let b : Birth = record { number = 0; pair = record { g = mark.g; r = mark.r }; state = c.in_ok-copy.ensures j } in b) in
+    ∙ (λ j. let b : Generated = record { number = 0; counters = (mark.g, mark.r); state = c.in_ok-copy.ensures j } in b) in
     let width = ap (λ index. index.width) c.requires.index in
     let tracked : c.add_track.new.self ≡ record { kept = []; tracks = track ∷ [] } =
     c.in_ok-add_track.ensures.added ∙ ap (λ (n : Keeping). record n { tracks = n.tracks ++ track ∷ [] }) c.new-nodes.ensures in
@@ -31,11 +30,12 @@ returns g c =
       state_is = ap (λ parts. parts.0) c.in_ok-state.ensures.value ∙ ap (λ (t : PlanningTask). t.init) asked;
       track_is = ap (λ parts. parts.1.track) c.in_ok-state.ensures.value;
       marked = subst (λ (t : PlanningTask). IsMarked t state [] mark track) asked c.in_ok-state.ensures.marked;
-      w_is = c.in_ok-w.ensures.novelty ∙ (λ j. novelty_of (width j) (generated_of (root_is j) ∷ []) (generated_of (root_is j)));
+      w_is = c.in_ok-w.ensures.novelty ∙ (λ j. novelty_of (width j) (root_is j ∷ []) (root_is j));
       index = c.in_ok-w.ensures.index ∙ c.requires.index;
       limit = c.in_ok-w.ensures.limit ∙ c.requires.limit;
       births = subst (λ b. StandsFor tables (b ∷ [])) root_is c.in_ok-w.ensures.stands;
-      pairs = c.in_ok-w.ensures.pairs ∙ ap (λ (b : Birth). b.pair ∷ []) root_is;
+      pairs = c.in_ok-w.ensures.pairs ∙ ap (λ (b : Generated). b.counters ∷ []) root_is;
+      home = c.in_ok-w.ensures.home;
       nodes_are = c.in_ok-add.ensures.added ∙ ap (λ (n : Keeping). record n { kept = n.kept ++ root_kept state mark w ∷ [] }) tracked;
       queued = subst (λ waiting_before. IsWith waiting_before (waiting w mark.g 0) c.put.new.self) c.new-queue.ensures c.in_ok-put.ensures.put;
     })

@@ -8,13 +8,13 @@ use Rattle.wp_commit.proofs.ExpansionLemmas.{kept-count, kept-few}
 use Rattle.wp_commit.proofs.searched.counts_of.Goals as goal
 
 pub overflow_sub-result : goal.overflow_sub-result
-overflow_sub-result g c =
+overflow_sub-result c =
     let m = c.requires.0 in
     let holds = c.requires.1 in
     omega (arith, kept-few c.args.searched.now.nodes.kept m.nodes holds.nodes.nodes_are, holds.counts.kept, holds.counts.numbered)
 
 pub returns : goal.returns
-returns g c m holds =
+returns c m holds =
     let task = c.args.run.now.task in
     let settings = c.args.run.now.settings in
     let s = c.args.searched.now in

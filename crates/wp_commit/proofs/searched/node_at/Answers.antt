@@ -5,7 +5,7 @@ use Rattle.wp_commit.proofs.TakeLemmas.{kept_for}
 use Rattle.wp_commit.proofs.searched.node_at.Goals as goal
 
 pub unreachable-requires : goal.unreachable-requires
-unreachable-requires g c =
+unreachable-requires c =
     let s = c.args.searched.now in
     let m = c.requires.taken.0 in
     let node = c.requires.taken.1 in

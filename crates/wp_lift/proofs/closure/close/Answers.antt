@@ -1,14 +1,10 @@
-use Rattle.std.proofs.Common.{◌≡◌, ◌-◌, ℕ, suc, [], length, get_or, ap, ◌∙◌, arith}
-use Rattle.std.proofs.lemmas.List.{length-map}
-use Rattle.wp_lift.specs.Rows.{by_way_of, closed_by}
+use Rattle.std.proofs.Common.{◌<◌, get_or, sym, subst}
+use Rattle.std.proofs.lemmas.List.{get_or_default}
 use Rattle.wp_lift.proofs.closure.close.Goals as goal
 
-pub loop-left-preserved : goal.loop-left-preserved
-loop-left-preserved c =
-    let rows = c.loop-left.rows.items in
-    let middle = c.loop-left.left - 1 in
-    let one : suc middle ≡ c.loop-left.left = omega arith in
-    let passed = c.in_ok-pass_on.ensures in (
-      ap (closed_by middle) passed ∙ ap (λ (n : ℕ). closed_by n rows) one ∙ c.loop-left.invariant.0,
-      omega (arith, ap length passed, length-map rows (by_way_of middle (get_or rows middle []))),
-    )
+pub pass_on-requires : goal.pass_on-requires
+pass_on-requires c =
+    let place = c.loop-middle.middle-index in
+    let middle = get_or c.args.order.now place 0 in
+    subst (λ n. middle < n) (sym c.loop-middle.invariant.1)
+    (c.requires.below middle (place, c.loop-middle-test.true, get_or_default c.args.order.now place middle 0 c.loop-middle-test.true))

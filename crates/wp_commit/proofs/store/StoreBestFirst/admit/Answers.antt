@@ -1,4 +1,4 @@
-use Rattle.std.proofs.Common.{◌≡◌, ◌+◌, ◌-◌, ◌≤◌, ◌++◌, ℕ, Option, Some, false, MatchOption, is_some, length, sym, ap, ◌∙◌, subst, arith}
+use Rattle.std.proofs.Common.{◌≡◌, ◌-◌, ◌≤◌, ◌++◌, Option, Some, false, MatchOption, is_some, length, sym, ap, ◌∙◌, subst, arith}
 use Rattle.wp_nodes.specs.declared.kept.Kept.{Kept}
 use Rattle.wp_watch.specs.declared.event.Event.{Event}
 use Rattle.wp_plain.specs.declared.settings.Settings.{Settings}
@@ -33,6 +33,7 @@ enter-requires g c =
     let repeats_is : x.repeats ≡ length (brood_of a.task s.nodes e.node) - length x.fresh.items = omega (arith, e.repeats_are) in
     let needed = needed-length a.task a.settings s tables number e.node (brood_of a.task s.nodes e.node) x.fresh.items x.pairs.items ev any.0 any.1 any.2.1 in
     record {
+      works = any.2.0.works;
       taken = (any.0, any.1, any.2.1);
       evaluated = e;
       numbers = (fits a.task a.settings s tables number e.node (brood_of a.task s.nodes e.node) x.fresh.items x.pairs.items ev any.0 any.1 any.2.1 can.later budget x.repeats repeats_is).0;
@@ -97,7 +98,7 @@ returns g c m node at can =
         subst (λ (b : Asked). StandsAt a.task a.settings later c.enter.new.tables (next_of b.task b.settings m node)) at.0.same
             (goes a.task a.settings s tables number e.node (brood_of a.task s.nodes e.node) x.fresh.items x.pairs.items ev m node at.1
             c.enter.new.tables numbered.newborns.items numbered.repeats later entered.newborns repeats_is committed
-            entered.births entered.keys entered.index entered.limit),
+            entered.births entered.pairs entered.home entered.index entered.limit),
       ),
       subst (λ (y : Event). MatchOption c.in_ok-told.told (c.args.wanted ≡ false) (λ z. z ≡ y)) event c.in_ok-told.ensures,
     )

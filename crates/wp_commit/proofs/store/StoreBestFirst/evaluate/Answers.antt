@@ -3,9 +3,14 @@ use Rattle.wp_plain.specs.Pairs.{pairs_in}
 use Rattle.wp_plain.specs.Run.{all_at}
 use Rattle.wp_plain.specs.Steps.{Asked}
 use Rattle.wp_commit.specs.Expansions.{brood_of, IsExpansionOf}
+use Rattle.wp_commit.specs.Phases.{Calls}
 use Rattle.wp_commit.specs.Searched.{IsRunOf, IsTakenAt}
 use Rattle.wp_commit.proofs.ExpansionLemmas.{in_hand, laws_of, needed-few, needed-length}
 use Rattle.wp_commit.proofs.store.StoreBestFirst.evaluate.Goals as goal
+
+-- a run is known by what it was made for
+run_of : {W : Type 0} (calls : Calls W) (work : W) (run later asked : Asked) → run ≡ later → IsRunOf calls work run asked → IsRunOf calls work later asked
+run_of calls work run later asked same is = subst (λ (b : Asked). IsRunOf calls work b asked) same is
 
 pub overflow_add-needed : goal.overflow_add-needed
 overflow_add-needed g c =
@@ -33,8 +38,11 @@ returns g c m node taken =
     let x = c.in_ok-expansion.expansion in
     let e = c.in_ok-expansion.ensures.evaluated in
     let counted : c.len.result ≡ length x.pairs.items = search rules in (
-      subst (λ (b : Asked). IsRunOf b asked × IsTakenAt b.task b.settings s tables m node number × IsExpansionOf b.task s tables number x) (sym c.in_ok-expansion.ensures.same)
-          (taken.0, taken.1, e),
+      (
+        run_of _ _ a _ asked (sym c.in_ok-expansion.ensures.same) taken.0,
+        subst (λ (b : Asked). IsTakenAt b.task b.settings s tables m node number) (sym c.in_ok-expansion.ensures.same) taken.1,
+        subst (λ (b : Asked). IsExpansionOf b.task s tables number x) (sym c.in_ok-expansion.ensures.same) e,
+      ),
       (λ j. c.pairs.ensures.value j + counted j)
           ∙ (needed-length a.task a.settings s tables number e.node (brood_of a.task s.nodes e.node) x.fresh.items x.pairs.items
           (in_hand a.task s tables number x (laws_of c.counters_are_carried.ensures.children c.children_are_numbered.ensures c.nodes_are_numbered.ensures) e) m node taken.1

@@ -1,6 +1,6 @@
 use Rattle.std.proofs.Common.{[]}
 use Rattle.std.proofs.lemmas.List.{take_all}
-use Rattle.wp_lift.proofs.WorldLemmas.{among-noted_all}
+use Rattle.wp_lift.proofs.SameLemmas.{among-noted_all}
 use Rattle.wp_lift.proofs.world.World.of_atoms.Goals as goal
 
 pub returns : goal.returns

@@ -36,4 +36,6 @@ invariant_of-result c =
       pre = c.in_ok-pre.ensures;
       add = c.in_ok-add.ensures;
       counts = c.in_ok-need_counts.ensures;
+      need_sets = c.in_ok-need_sets.ensures;
+      goal_set = c.in_ok-goal_set.ensures;
     }

@@ -1,0 +1,5 @@
+mod Rows
+mod SearchRows
+mod NumberedRows
+mod AnswerRows
+mod FileRows

@@ -1,0 +1,72 @@
+-- Inside dealing and working: what the homes can give, and what jobs take of them.
+use Rattle.std.specs.Prelude.{◌≡◌, ℕ, ◌<◌, ◌≤◌, true, false, List, [], ◌++◌, length, map, All, Some}
+use Rattle.std.specs.List.{flat_map, list_any}
+use Rattle.std.specs.Vec.{vec_capacity}
+use Rattle.wp_task.specs.Novelty.{Generated}
+use Rattle.wp_arrive.specs.Seen.{PassView, seen}
+use Rattle.wp_novel.specs.declared.birth.Pair.{Pair}
+use Rattle.wp_novel.specs.declared.job.JobPass.{JobPass}
+use Rattle.wp_novel.specs.declared.deal.Share.{Share}
+use Rattle.wp_novel.specs.NoveltyTables.{counters_of, is_same, is_among, pairs_of, home_of, EachHome}
+use Rattle.wp_novel.specs.Jobs.{JobView, HomesBecome, Lends, passes_of, parts_at, has_pass}
+
+abbrev pub Homes : Type 0
+Homes = List (Pair × PassView)
+
+-- ---- shares
+abbrev pub births_in : List Share → List Generated
+births_in shares = flat_map (λ share. share.births.items) shares
+
+-- a share has births, and room for a pass for each
+abbrev pub AreRoomy : Share → Type 0
+AreRoomy share = (0 < length share.births.items) × (length share.births.items ≤ vec_capacity share.passes) × (share.passes.items ≡ [])
+
+-- ---- passes that are taken
+-- the pass was split from its pair's home, which has words
+pub record IsGivenOf (homes : Homes) (p : JobPass) : Type 0 where
+  pub home : PassView
+  pub home_is : home_of homes p.pair ≡ Some home
+  pub words : 0 < home.table.words
+  pub given : p.pass ≡ seen home.table [] 1
+
+abbrev pub HasWords : Homes → ℕ × ℕ → Type 0
+HasWords homes counters = (pair : Pair) (home : PassView) → counters_of pair ≡ counters → home_of homes pair ≡ Some home → 0 < home.table.words
+
+-- a pass for each pair of some births, of which those that have no words have none
+pub record ArePassesFor (homes : Homes) (births : List Generated) (passes : List JobPass) : Type 0 where
+  pub given : All (IsGivenOf homes) passes
+  pub covers : All (λ b. HasWords homes b.counters → has_pass passes b.counters ≡ true) births
+  pub one : (pair : Pair) → parts_at pair passes ≤ 1
+  pub only : All (λ p. list_any (λ b. is_same b.counters (counters_of p.pair)) births ≡ true) passes
+  pub few : length passes ≤ length births
+
+-- a pass more of the pair, unless there was one or the pair has no words
+pub record TakesPass (pair : Pair) (passes after : List JobPass) (old new : Homes) : Type 0 where
+  pub more : List JobPass
+  pub is : after ≡ passes ++ more
+  pub homes : HomesBecome (Lends more) old new
+  pub given : All (λ p. (p.pair ≡ pair) × IsGivenOf old p) more
+  pub few : length more ≤ 1
+  pub none_before : 0 < length more → has_pass passes (counters_of pair) ≡ false
+  pub covers : HasWords old (counters_of pair) → has_pass after (counters_of pair) ≡ true
+
+-- the pairs of the births are open, and each home can give so many parts and keep one
+pub record CanLend (jobs : ℕ) (homes : Homes) (births : List Generated) : Type 0 where
+  pub opens : All (λ b. is_among (pairs_of homes) b.counters ≡ true) births
+  pub parts : EachHome (λ pair home. jobs < home.parts) homes
+
+-- the jobs have these births and passes for them, which were split from the homes
+pub record AreGiven (old new : Homes) (shares : List (List Generated)) (jobs : List JobView) : Type 0 where
+  pub births : map (λ j. j.births) jobs ≡ shares
+  pub unworked : All (λ j. j.worked ≡ false) jobs
+  pub passes : All (λ j. ArePassesFor old j.births j.passes) jobs
+  pub homes : HomesBecome (Lends (passes_of jobs)) old new
+
+-- ---- work
+-- the pass is of its pair's table, which has words, and has a part
+pub record CanMark (homes : Homes) (p : JobPass) : Type 0 where
+  pub home : PassView
+  pub home_is : home_of homes p.pair ≡ Some home
+  pub table : p.pass.table ≡ home.table
+  pub words : 0 < p.pass.table.words
+  pub part : 0 < p.pass.parts

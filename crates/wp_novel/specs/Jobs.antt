@@ -1,0 +1,113 @@
+-- Jobs: births that are dealt to workers, with the passes by which they are marked.
+use Rattle.std.specs.Prelude.{◌≡◌, ℕ, ◌+◌, ◌^◌, ◌<◌, ◌≤◌, Bool, true, false, List, [], ◌∷◌, ◌++◌, length, map, All, Some, if◌then◌else◌}
+use Rattle.std.specs.List.{flat_map, list_any}
+use Rattle.std.specs.Map.{keys_of}
+use Rattle.wp_task.specs.Novelty.{Generated}
+use Rattle.wp_tuples.specs.TuplePlaces.{Indexed, tuples_of}
+use Rattle.wp_arrive.specs.declared.view.Mark.{Mark}
+use Rattle.wp_arrive.specs.Seen.{PassView, seen}
+use Rattle.wp_novel.specs.declared.birth.Pair.{Pair}
+use Rattle.wp_novel.specs.declared.job.JobPass.{JobPass}
+use Rattle.wp_novel.specs.NoveltyTables.{NoveltyTables, counters_of, is_same, is_pair, home_of, EachHome, IsOpen}
+use Rattle.wp_novel.specs.Marks.{marks_for}
+
+pub record JobView : Type 0 where
+  pub births : List Generated
+  pub passes : List JobPass  -- one for each pair of the births
+  pub worked : Bool
+
+-- ---- work
+-- the pass, after it marked those of the births that have its pair
+abbrev pub worked_pass : Indexed → List Generated → JobPass → JobPass
+worked_pass index births p =
+    record { pair = p.pair; pass = seen p.pass.table (p.pass.marks ++ marks_for index (counters_of p.pair) births) p.pass.parts }
+
+abbrev pub worked_job : Indexed → JobView → JobView
+worked_job index j = record { births = j.births; passes = map (worked_pass index j.births) j.passes; worked = true }
+
+-- ---- many jobs
+abbrev pub births_of : List JobView → List Generated
+births_of jobs = flat_map (λ j. j.births) jobs
+
+abbrev pub numbers_of : List Generated → List ℕ
+numbers_of births = map (λ b. b.number) births
+
+abbrev pub passes_of : List JobView → List JobPass
+passes_of jobs = flat_map (λ j. j.passes) jobs
+
+-- the parts and the marks of the passes of a pair
+abbrev pub parts_at : Pair → List JobPass → ℕ
+parts_at pair [] = 0
+parts_at pair (p ∷ passes) = if is_pair pair p.pair then p.pass.parts + parts_at pair passes else parts_at pair passes
+
+abbrev pub passed_at : Pair → List JobPass → List Mark
+passed_at pair [] = []
+passed_at pair (p ∷ passes) = if is_pair pair p.pair then p.pass.marks ++ passed_at pair passes else passed_at pair passes
+
+-- ---- jobs of tables
+-- the pass is of its pair's table and has one part; it has the marks that its job made, and none before the job is worked
+pub record IsPassOf (t : NoveltyTables) (worked : Bool) (births : List Generated) (p : JobPass) : Type 0 where
+  pub home : PassView
+  pub home_is : home_of t.homes p.pair ≡ Some home
+  pub table : p.pass.table ≡ home.table
+  pub words : 0 < p.pass.table.words
+  pub part : p.pass.parts ≡ 1
+  pub marks : p.pass.marks ≡ (if worked then marks_for t.index (counters_of p.pair) births else [])
+
+abbrev pub has_pass : List JobPass → ℕ × ℕ → Bool
+has_pass passes counters = list_any (λ p. is_same (counters_of p.pair) counters) passes
+
+-- a job of the tables, worked or not: it has exactly one pass for each pair of its births, where there are words
+pub record IsJobOf (t : NoveltyTables) (worked : Bool) (j : JobView) : Type 0 where
+  pub worked_is : j.worked ≡ worked
+  pub passes : All (IsPassOf t worked j.births) j.passes
+  pub covers : 0 < length (tuples_of t.index) → All (λ b. has_pass j.passes b.counters ≡ true) j.births
+  pub one : (pair : Pair) → parts_at pair j.passes ≤ 1
+  pub only : All (λ p. list_any (λ b. is_same b.counters (counters_of p.pair)) j.births ≡ true) j.passes
+  pub opens : All (λ b. IsOpen t b.counters) j.births
+  pub sizes : All (λ b. length b.state ≡ t.index.atoms) j.births
+  pub numbers : All (λ b. b.number < 2 ^ 63) j.births
+
+-- all parts of each pair are at home and in the passes
+abbrev pub AreShared : List JobPass → List (Pair × PassView) → Type 0
+AreShared passes homes = EachHome (λ pair home. home.parts + parts_at pair passes ≡ 2 ^ 32) homes
+
+-- the jobs are all that are out of the tables
+pub record AreOut (t : NoveltyTables) (worked : Bool) (jobs : List JobView) : Type 0 where
+  pub jobs_are : All (IsJobOf t worked) jobs
+  pub numbers : numbers_of (births_of jobs) ≡ t.out
+  pub shared : AreShared (passes_of jobs) t.homes
+
+-- ---- deal and collect
+-- what becomes of the homes, of which there are no more and no fewer
+pub record HomesBecome (R : Pair → PassView → PassView → Type 0) (old new : List (Pair × PassView)) : Type 0 where
+  pub pairs : keys_of new ≡ keys_of old
+  pub homes : EachHome (λ pair home. (after : PassView) × (home_of new pair ≡ Some after) × R pair home after) old
+
+-- the home gave its parts of these passes away, and kept its marks
+pub record Lends (passes : List JobPass) (pair : Pair) (home after : PassView) : Type 0 where
+  pub table : after.table ≡ home.table
+  pub marks : after.marks ≡ home.marks
+  pub parts : after.parts + parts_at pair passes ≡ home.parts
+
+-- the home took the parts and the marks of these passes
+abbrev pub Takes : List JobPass → Pair → PassView → PassView → Type 0
+Takes passes pair home after = after ≡ seen home.table (home.marks ++ passed_at pair passes) (home.parts + parts_at pair passes)
+
+-- these jobs were dealt
+pub record AreDealt (jobs : List JobView) (old new : NoveltyTables) : Type 0 where
+  pub index : new.index ≡ old.index
+  pub limit : new.limit ≡ old.limit
+  pub last : new.last ≡ old.last
+  pub homes : HomesBecome (Lends (passes_of jobs)) old.homes new.homes
+
+-- and these were collected
+pub record AreCollected (jobs : List JobView) (old new : NoveltyTables) : Type 0 where
+  pub index : new.index ≡ old.index
+  pub limit : new.limit ≡ old.limit
+  pub homes : HomesBecome (Takes (passes_of jobs)) old.homes new.homes
+
+-- ---- the law of work
+-- where jobs are out of the tables and are worked, all of them, the worked ones are out
+abbrev pub WorkIsOut : Type 0
+WorkIsOut = (t : NoveltyTables) (jobs : List JobView) → AreOut t false jobs → AreOut t true (map (worked_job t.index) jobs)
