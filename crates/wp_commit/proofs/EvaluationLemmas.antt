@@ -1,5 +1,5 @@
 -- Leaving the repeats out before children are evaluated is the same as leaving them out after it.
-use Rattle.std.proofs.Common.{◌≡◌, ℕ, ◌-◌, ◌<◌, ◌≤◌, Some, nat_lt, cond, Bool, true, false, List, [], ◌∷◌, ◌++◌, length, map, refl, sym, ap, ◌∙◌, append_assoc, arith}
+use Rattle.std.proofs.Common.{◌≡◌, ◌&&◌, ℕ, zero, suc, ◌+◌, ◌-◌, ◌<◌, ◌≤◌, Option, Some, None, inl, inr, nat_lt, cond, Bool, true, false, List, [], ◌∷◌, ◌++◌, length, map, refl, sym, ap, ◌∙◌, append_assoc, arith}
 use Rattle.std.specs.Bool.{beq}
 use Rattle.std.specs.Cmp.Lexicographic.{pointwise}
 use Rattle.std.specs.List.{All, Contains, fold, list_any, range_with_len}
@@ -9,8 +9,9 @@ use Rattle.std.proofs.lemmas.List.Elements.{All-nil, All-cons}
 use Rattle.std.proofs.lemmas.List.Sums.{count_by-le-length, length-filter}
 use Rattle.wp_task.specs.declared.acts.Act.{Act}
 use Rattle.wp_task.specs.declared.track.Mark.{Mark}
-use Rattle.wp_task.specs.Task.{PlanningTask, act_at, applies, applicable_in, goal_counter, result_of}
-use Rattle.wp_task.proofs.PlanLemmas.{length-result_of}
+use Rattle.wp_task.specs.Task.{PlanningTask, IsReachable, act_at, applies, applicable_in, leads_to, goal_counter, result_of}
+use Rattle.wp_task.proofs.Members.{In, In-map_cases, In-filter_cases}
+use Rattle.wp_task.proofs.PlanLemmas.{leads_to-step, length-result_of}
 use Rattle.wp_count.specs.declared.brood.Child.{Child}
 use Rattle.wp_count.specs.Broods.{with_achieved, base_child, later_child, child_of, children_of}
 use Rattle.wp_novel.specs.NoveltyTables.{NoveltyTables, counters_of, open_pairs}
@@ -24,6 +25,7 @@ use Rattle.wp_plain.proofs.UnseenLemmas.{unseen-few, unseen-all}
 use Rattle.wp_commit.specs.declared.evaluation.Expansion.{Expansion}
 use Rattle.wp_commit.specs.declared.searched.Searched.{Searched}
 use Rattle.wp_commit.specs.Newborns.{AreUnopened}
+use Rattle.wp_commit.proofs.ConditionLemmas.{all-from}
 use Rattle.wp_commit.specs.Expansions.{states_of, successors_by, brood_of, IsExpansionOf}
 
 -- one item more of a list that is made one by one
@@ -62,7 +64,7 @@ map-again f h [] = refl
 map-again f h (x ∷ xs) = ap (λ l. h (f x) ∷ l) (map-again f h xs)
 
 module _ (task : PlanningTask) (mark : Mark) (track : List ℕ) where
-  state-kept : (a : ℕ) (state : List Bool) → (child_of task mark track a state).state ≡ state
+  pub state-kept : (a : ℕ) (state : List Bool) → (child_of task mark track a state).state ≡ state
   state-kept a state = by (nat_lt (goal_counter task.goals state) mark.g) where
     by : (b : Bool) → (cond b (base_child task a state) (later_child task a state (with_achieved mark.got track state))).state ≡ state
     by true = refl
@@ -77,6 +79,44 @@ module _ (task : PlanningTask) (mark : Mark) (track : List ℕ) where
       sym (unseen-map child (λ x. x.state) (λ c. c.state) (λ x. state-kept x.act x.state) seen (successors_by task.acts state numbers))
       ∙ ap (unseen (λ c. c.state) seen)
       (map-again (λ (a : ℕ). let x : Successor = record { act = a; state = result_of (act_at task.acts a) state } in x) child numbers)
+
+-- ---- states that are reached
+leads_to-push : (acts : List Act) (state last : List Bool) (plan : List ℕ) (a : ℕ) → leads_to acts state plan ≡ Some last →
+    a < length acts → applies (act_at acts a) last ≡ true → leads_to acts state (plan ++ a ∷ []) ≡ Some (result_of (act_at acts a) last)
+leads_to-push acts state last [] a leads within applied =
+    let same : state ≡ last = cc in
+    ap (λ s. leads_to acts s (a ∷ [])) same ∙ leads_to-step acts last a [] within applied
+leads_to-push acts state last (b ∷ plan) a leads within applied =
+    by (nat_lt b (length acts) && applies (act_at acts b) state) leads (leads_to-push acts (result_of (act_at acts b) state) last plan a) where
+      by : (t : Bool) → elim t as (λ _. Option (List Bool)) [ true ↦ leads_to acts (result_of (act_at acts b) state) plan | false ↦ None ] ≡ Some last →
+          (leads_to acts (result_of (act_at acts b) state) plan ≡ Some last → a < length acts → applies (act_at acts a) last ≡ true →
+          leads_to acts (result_of (act_at acts b) state) (plan ++ a ∷ []) ≡ Some (result_of (act_at acts a) last)) →
+          elim t as (λ _. Option (List Bool)) [ true ↦ leads_to acts (result_of (act_at acts b) state) (plan ++ a ∷ []) | false ↦ None ]
+          ≡ Some (result_of (act_at acts a) last)
+      by true is rest = rest is within applied
+      by false is rest = absurd (cc)
+
+range-below : (a n k : ℕ) → In k (range_with_len a n) → k < a + n
+range-below a zero k there = absurd there
+range-below a (suc n) k (inl same) = omega arith
+range-below a (suc n) k (inr later) = let below : k < a + 1 + n = range-below (a + 1) n k later in omega arith
+
+-- the children of a node that can be reached can be reached
+pub children-reached : (task : PlanningTask) (state : List Bool) (mark : Mark) (track : List ℕ) → IsReachable task state →
+    All (λ c. IsReachable task c.state) (children_of task state mark track)
+children-reached task state mark track from =
+    all-from (λ (c : Child). IsReachable task c.state) (children_of task state mark track) (λ c there.
+    let acts = task.acts in
+    let child : ℕ → Child = λ a. child_of task mark track a (result_of (act_at acts a) state) in
+    let found : (a : ℕ) × In a (applicable_in acts state) × (c ≡ child a) = In-map_cases child (applicable_in acts state) c there in
+    let parts = In-filter_cases (λ a. applies (act_at acts a) state) (range_with_len 0 (length acts)) found.0 found.1 in
+    let within : found.0 < 0 + length acts = range-below 0 (length acts) found.0 parts.0 in
+    let state_is : c.state ≡ result_of (act_at acts found.0) state =
+    ap (λ (d : Child). d.state) found.2 ∙ state-kept task mark track found.0 (result_of (act_at acts found.0) state) in
+    record {
+      actions = from.actions ++ found.0 ∷ [];
+      leads = leads_to-push acts task.init state from.actions found.0 from.leads (omega arith) parts.1 ∙ ap (λ s. Some s) (sym state_is);
+    })
 
 -- ---- how many, and of what size
 pub successors-sized : (acts : List Act) (state : List Bool) (atoms : ℕ) (numbers : List ℕ) → length state ≡ atoms →
@@ -112,16 +152,16 @@ pub expansion-is : (task : PlanningTask) (s : Searched) (tables : NoveltyTables)
     node_of s.nodes.kept number ≡ Some k → Contains s.nodes.kept k → k.number ≡ number → k.mark.track < length s.nodes.tracks → AreLinked s.nodes →
     numbers ≡ applicable_in task.acts k.state → track ≡ track_at s.nodes.tracks k.mark.track →
     reached ≡ unseen (λ y. y.state) (states_of s.nodes.kept) (successors_by task.acts k.state numbers) →
-    x.fresh.items ≡ map (λ y. child_of task k.mark track y.act y.state) reached → x.repeats ≡ length numbers - length reached →
-    open_pairs tables ++ map counters_of x.pairs.items ≡ fold with_pair (open_pairs tables) (map child_pair x.fresh.items) →
+    x.children.items ≡ map (λ y. child_of task k.mark track y.act y.state) reached → x.repeats ≡ length numbers - length reached →
+    open_pairs tables ++ map counters_of x.pairs.items ≡ fold with_pair (open_pairs tables) (map child_pair x.children.items) →
     AreUnopened (open_pairs tables) (map counters_of x.pairs.items) → IsExpansionOf task s tables number x
-expansion-is task s tables number x k numbers track reached found there named tracked linked numbers_are track_is reached_are fresh_are repeats_are pairs_are unopened =
+expansion-is task s tables number x k numbers track reached found there named tracked linked numbers_are track_is reached_are children_are repeats_are pairs_are unopened =
     let acts = task.acts in
     let brood : List Child = brood_of task s.nodes k in
     let child : ℕ → Child = λ a. child_of task k.mark (track_at s.nodes.tracks k.mark.track) a (result_of (act_at acts a) k.state) in
     let made : Successor → Child = λ y. child_of task k.mark track y.act y.state in
     let all : length brood ≡ length numbers = length-map (applicable_in acts k.state) child ∙ ap length (sym numbers_are) in
-    let rest : length x.fresh.items ≡ length reached = ap length fresh_are ∙ length-map reached made in
+    let rest : length x.children.items ≡ length reached = ap length children_are ∙ length-map reached made in
     let few : length reached ≤ length numbers = successors-few acts k.state numbers (states_of s.nodes.kept) reached reached_are in
     record {
       node = k;
@@ -130,7 +170,7 @@ expansion-is task s tables number x k numbers track reached found there named tr
       named = named;
       tracked = tracked;
       linked = linked;
-      unseen_are = fresh_are
+      unseen_are = children_are
           ∙ ((λ j. map (λ (y : Successor). child_of task k.mark (track_is j) y.act y.state)
           ((reached_are ∙ ap (λ l. unseen (λ (y : Successor). y.state) (states_of s.nodes.kept) (successors_by acts k.state l)) numbers_are) j))
           ∙ evaluated-unseen task k.mark (track_at s.nodes.tracks k.mark.track) (states_of s.nodes.kept) k.state);

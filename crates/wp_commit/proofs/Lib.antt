@@ -4,6 +4,7 @@ pub mod EndLemmas
 pub mod EvaluationLemmas
 pub mod ExpansionLemmas
 pub mod KeepLemmas
+pub mod LatestLemmas
 pub mod MarkingLemmas
 pub mod NewbornLemmas
 pub mod PairLemmas

@@ -2,10 +2,10 @@
 use Rattle.std.proofs.Common.{◌≡◌, ◌<◌, ◌++◌, ℕ, false, List, [], length, map, get_or, take, drop, sym, ◌∙◌, subst, arith}
 use Rattle.std.proofs.Math.Seq.{take-append_seam}
 use Rattle.std.proofs.lemmas.List.{ext_get_or, get_or-map, length-map}
-use Rattle.wp_tuples.specs.TuplePlaces.{Indexed}
+use Rattle.wp_tuples.specs.Placing.{Placing}
 use Rattle.wp_novel.specs.Jobs.{JobView, worked_job}
 
-pub each_worked : (index : Indexed) (jobs worked : List JobView) → length worked ≡ length jobs →
+pub each_worked : (index : Placing) (jobs worked : List JobView) → length worked ≡ length jobs →
     ((i : ℕ) (d : JobView) → i < length jobs → get_or worked i d ≡ worked_job index (get_or jobs i d)) → worked ≡ map (worked_job index) jobs
 each_worked index jobs worked count each =
     let none : JobView = record { births = []; passes = []; worked = false } in

@@ -21,8 +21,11 @@ use Rattle.wp_plain.specs.Expansion.{path_counters, generated_at, root_of}
 use Rattle.wp_plain.specs.Explored.{track_at}
 use Rattle.wp_plain.specs.Run.{opening}
 use Rattle.wp_plain.proofs.ListLemmas.{has_pair-from_there}
-use Rattle.wp_commit.specs.Searched.{shown, IsOnPath, AreKept, IsWaiting, AreWaiting, AreTables, StandsAt}
+use Rattle.wp_commit.specs.declared.searched.Searched.{Searched}
+use Rattle.wp_commit.specs.Latest.{IsOfRoot, AreBirths}
+use Rattle.wp_commit.specs.Searched.{shown, IsOnPath, IsIndexFor, AreKept, IsWaiting, AreWaiting, AreTables, StandsAt}
 use Rattle.wp_commit.proofs.KeepLemmas.{Contains-one}
+use Rattle.wp_commit.proofs.LatestLemmas.{root-births}
 
 -- ---- the root's pair
 no_home : (homes : _) (pair : Pair) (home : _) → pairs_of homes ≡ [] → home_of homes pair ≡ Some home → ⊥
@@ -54,23 +57,34 @@ root_birth state mark = record { number = 0; counters = (mark.g, mark.r); state 
 abbrev pub root_kept : List Bool → Mark → ℕ → Kept
 root_kept state mark w = record { number = 0; w = w; back = None; state = state; mark = mark }
 
+-- the search has these nodes and this queue, and counts the root alone
+pub record IsSearchedOf (nodes : Keeping) (queue : List Waiting) (s : Searched) : Type 0 where
+  pub nodes_are : s.nodes ≡ nodes
+  pub queue_is : s.queue ≡ queue
+  pub numbered : s.numbered ≡ 1
+  pub kept : s.kept ≡ 1
+  pub expanded : s.expanded ≡ 0
+  pub repeats : s.repeats ≡ 0
+
 -- what is known of a root once it is marked and kept
 pub record IsRootAlone (task : PlanningTask) (settings : Settings) (tables : NoveltyTables) (nodes : Keeping) (queue : List Waiting)
-    (state : List Bool) (mark : Mark) (track : List ℕ) (w : ℕ) : Type 0 where
+    (state : List Bool) (mark : Mark) (track : List ℕ) (w : ℕ) (s : Searched) : Type 0 where
+  pub searched : IsSearchedOf nodes queue s
   pub state_is : state ≡ task.init
   pub track_is : mark.track ≡ 0
   pub marked : IsMarked task state [] mark track
   pub w_is : w ≡ novelty_of settings.width (root_birth state mark ∷ []) (root_birth state mark)
-  pub index : tables.index ≡ record { atoms = task.atoms; width = settings.width }
+  pub index : IsIndexFor task settings tables.index
   pub limit : tables.limit ≡ settings.words
   pub births : StandsFor tables (root_birth state mark ∷ [])
   pub pairs : open_pairs tables ≡ (mark.g, mark.r) ∷ []
   pub home : IsAtHome tables
+  pub latest : IsOfRoot (record { g = mark.g; r = mark.r }) s.latest.entries
   pub nodes_are : nodes ≡ record { kept = root_kept state mark w ∷ []; tracks = track ∷ [] }
   pub queued : IsWith [] (waiting w mark.g 0) queue
 
 module _ (task : PlanningTask) (settings : Settings) (counts : MarksCount) (tables : NoveltyTables) (nodes : Keeping) (queue : List Waiting)
-    (state : List Bool) (mark : Mark) (track : List ℕ) (w : ℕ) (alone : IsRootAlone task settings tables nodes queue state mark track w) where
+    (state : List Bool) (mark : Mark) (track : List ℕ) (w : ℕ) (s : Searched) (alone : IsRootAlone task settings tables nodes queue state mark track w s) where
   generated_is : root_birth state mark ≡ generated_at (path_counters task) [] 0 task.init
   generated_is =
       let counters : HasCounters task state [] mark.g mark.r = counts task state [] mark track alone.marked in
@@ -88,6 +102,7 @@ module _ (task : PlanningTask) (settings : Settings) (counts : MarksCount) (tabl
     before = [];
     states = λ j. sym alone.state_is j ∷ [];
     marked = subst (λ i. IsMarked task state [] mark (track_at (track ∷ []) i)) (sym alone.track_is) alone.marked;
+    reachable = record { actions = []; leads = ap (λ s. Some s) (sym alone.state_is) };
   }
 
   root_is_kept : AreKept task nodes (opening task settings)
@@ -123,18 +138,20 @@ module _ (task : PlanningTask) (settings : Settings) (counts : MarksCount) (tabl
         kept = λ node there waits. ap (λ n. n.kept) ((Contains-one root node).0 there);
       }
 
-  pub opening-stands : StandsAt task settings (record { nodes = nodes; queue = queue; numbered = 1; kept = 1; expanded = 0; repeats = 0 }) tables (opening task settings)
+  pub opening-stands : StandsAt task settings s tables (opening task settings)
   opening-stands = record {
     holds = record {
       numbers = record { count = refl; numbers = (refl, tt) };
-      nodes = root_is_kept;
+      nodes = subst (λ n. AreKept task n (opening task settings)) (sym alone.searched.nodes_are) root_is_kept;
       words = root_is_marked;
       counts = record {
-        numbered = refl;
-        kept = sym (ap (λ n. length n.kept) alone.nodes_are);
-        expanded = refl;
-        repeats = refl;
+        numbered = alone.searched.numbered;
+        kept = alone.searched.kept ∙ sym (ap (λ n. length n.kept) (alone.searched.nodes_are ∙ alone.nodes_are));
+        expanded = alone.searched.expanded;
+        repeats = alone.searched.repeats;
       };
+      latest = subst (λ x. AreBirths (x ∷ []) s.latest.entries) generated_is
+          (root-births (root_birth state mark) (record { g = mark.g; r = mark.r }) s.latest.entries refl refl alone.latest);
     };
-    waiting = root_waits;
+    waiting = subst (λ q. AreWaiting q (opening task settings).nodes) (sym alone.searched.queue_is) root_waits;
   }

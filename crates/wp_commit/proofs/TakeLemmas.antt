@@ -149,6 +149,7 @@ module _ (task : PlanningTask) (settings : Settings) (s : Searched) (tables : No
     numbers = holds.numbers;
     nodes = holds.nodes;
     words = holds.words;
+    latest = holds.latest;
     counts = record {
       numbered = holds.counts.numbered;
       kept = holds.counts.kept;

@@ -39,19 +39,19 @@ pub record IsExpansionOf (task : PlanningTask) (s : Searched) (tables : NoveltyT
   pub named : node.number ≡ number
   pub tracked : node.mark.track < length s.nodes.tracks
   pub linked : AreLinked s.nodes
-  pub unseen_are : x.fresh.items ≡ unseen (λ c. c.state) (states_of s.nodes.kept) (brood_of task s.nodes node)
-  pub repeats_are : x.repeats + length x.fresh.items ≡ length (brood_of task s.nodes node)
+  pub unseen_are : x.children.items ≡ unseen (λ c. c.state) (states_of s.nodes.kept) (brood_of task s.nodes node)
+  pub repeats_are : x.repeats + length x.children.items ≡ length (brood_of task s.nodes node)
   pub few : length (brood_of task s.nodes node) ≤ length task.acts
-  pub pairs_are : open_pairs tables ++ map counters_of x.pairs.items ≡ fold with_pair (open_pairs tables) (map child_pair x.fresh.items)
+  pub pairs_are : open_pairs tables ++ map counters_of x.pairs.items ≡ fold with_pair (open_pairs tables) (map child_pair x.children.items)
   pub unopened : AreUnopened (open_pairs tables) (map counters_of x.pairs.items)
 
 -- ---- numbers and novelties
 -- the children have the next numbers, and their novelties among all nodes; the tables stand for all of them, and have the pairs
 pub record IsEnteredAt (settings : Settings) (tables : NoveltyTables) (x : Expansion) (later : NoveltyTables) (m : Moment) (numbered : Numbered) : Type 0 where
   pub newborns : numbered.newborns.items
-      ≡ newborns_of settings.width (generated_in m.nodes ++ all_numbered (length m.nodes) x.fresh.items) (length m.nodes) x.fresh.items
+      ≡ newborns_of settings.width (generated_in m.nodes ++ all_numbered (length m.nodes) x.children.items) (length m.nodes) x.children.items
   pub repeats : numbered.repeats ≡ x.repeats
-  pub births : StandsFor later (generated_in m.nodes ++ all_numbered (length m.nodes) x.fresh.items)
+  pub births : StandsFor later (generated_in m.nodes ++ all_numbered (length m.nodes) x.children.items)
   pub pairs : open_pairs later ≡ open_pairs tables ++ map counters_of x.pairs.items
   pub home : IsAtHome later
   pub index : later.index ≡ tables.index

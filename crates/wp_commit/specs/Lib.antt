@@ -1,4 +1,6 @@
+pub mod Entering
 pub mod Expansions
+pub mod Latest
 pub mod Newborns
 pub mod Phases
 pub mod Searched

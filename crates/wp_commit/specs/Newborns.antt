@@ -19,13 +19,14 @@ use Rattle.wp_plain.specs.Pairs.{has_pair}
 use Rattle.wp_commit.specs.declared.births.Rest.{Rest}
 use Rattle.wp_commit.specs.declared.newborn.Newborn.{Newborn}
 use Rattle.wp_commit.specs.declared.searched.Searched.{Searched}
+use Rattle.wp_commit.specs.Latest.{AreNoted}
 
 -- what a child has besides what it is generated as, and the child of both
 abbrev pub rest_of : Child → Rest
-rest_of c = record { act = c.act; got = c.got; fresh = c.fresh }
+rest_of c = record { act = c.act; got = c.got; track = c.fresh }
 
 abbrev pub child_with : Generated → Rest → Child
-child_with x rest = record { act = rest.act; state = x.state; g = x.counters.0; r = x.counters.1; got = rest.got; fresh = rest.fresh }
+child_with x rest = record { act = rest.act; state = x.state; g = x.counters.0; r = x.counters.1; got = rest.got; fresh = rest.track }
 
 -- the children with the next numbers, and their novelty among all nodes
 abbrev pub newborns_of : ℕ → List Generated → ℕ → List Child → List Newborn
@@ -110,6 +111,7 @@ event_as settings k repeats newborns = record {
 pub record IsCommitted (settings : Settings) (parent track : ℕ) (newborns : List Newborn) (repeats : ℕ) (s later : Searched) : Type 0 where
   pub nodes : later.nodes ≡ with_newborns settings parent track s.nodes newborns
   pub queue : AreQueued s.queue (waiting_of settings newborns) later.queue
+  pub latest : AreNoted newborns s.latest.entries later.latest.entries
   pub numbered : later.numbered ≡ s.numbered + length newborns
   pub kept : later.kept + length s.nodes.kept ≡ s.kept + length later.nodes.kept
   pub expanded : later.expanded ≡ s.expanded + 1

@@ -3,11 +3,13 @@
 use Rattle.std.specs.Prelude.{◌≡◌, ◌↔◌, ℕ, Bool, true, false, List, [], ◌∷◌, length, map, filter, slice_set, Some, Contains}
 use Rattle.std.specs.Bool.{MatchBool}
 use Rattle.std.specs.List.{sum_by}
-use Rattle.wp_task.specs.Task.{PlanningTask}
+use Rattle.wp_task.specs.Task.{PlanningTask, IsReachable}
 use Rattle.wp_task.specs.Novelty.{Generated}
 use Rattle.wp_count.specs.declared.brood.Child.{Child}
 use Rattle.wp_count.specs.Broods.{children_of}
 use Rattle.wp_count.specs.Laws.{IsMarked}
+use Rattle.wp_tuples.specs.Placing.{Placing}
+use Rattle.wp_novel.specs.MarkedTuples as marked
 use Rattle.wp_novel.specs.NoveltyTables.{NoveltyTables, open_pairs, IsAtHome}
 use Rattle.wp_novel.specs.StandsFor.{StandsFor}
 use Rattle.wp_queue.specs.declared.queue.Waiting.{Waiting}
@@ -18,12 +20,13 @@ use Rattle.wp_nodes.specs.Links.{along}
 use Rattle.wp_plain.specs.declared.settings.Settings.{Settings}
 use Rattle.wp_plain.specs.declared.ending.Counts.{Counts}
 use Rattle.wp_plain.specs.Nodes.{Node, Path, path_at, generated_in}
-use Rattle.wp_plain.specs.Pairs.{all_tuples, pairs_in, tuple_count, exceeds}
+use Rattle.wp_plain.specs.Pairs.{pairs_in, exceeds}
 use Rattle.wp_plain.specs.Run.{Moment, counts_of, run}
 use Rattle.wp_plain.specs.Explored.{track_at}
 use Rattle.wp_plain.specs.Steps.{Asked}
 use Rattle.wp_plain.specs.Numbers.{IsNumbered}
 use Rattle.wp_commit.specs.declared.searched.Searched.{Searched}
+use Rattle.wp_commit.specs.Latest.{AreBirths}
 use Rattle.wp_commit.specs.Phases.{Calls, WorksAll}
 
 -- ---- kept nodes
@@ -42,12 +45,13 @@ shown node = (node.generated, node.w)
 abbrev pub plans_in : List Path → ℕ → List ℕ
 plans_in paths number = (path_at paths number).acts
 
--- the node's link leads along its path, and its mark is that of its path
+-- the node's link leads along its path, its mark is that of its path, and its state can be reached
 pub record IsOnPath (task : PlanningTask) (paths : List Path) (tracks : List (List ℕ)) (k : Kept) : Type 0 where
   pub acts : plans_in paths k.number ≡ along (plans_in paths) k.back
   pub before : List (List Bool)
   pub states : (path_at paths k.number).states ≡ k.state ∷ before
   pub marked : IsMarked task k.state before k.mark (track_at tracks k.mark.track)
+  pub reachable : IsReachable task k.state
 
 -- the nodes that are kept are those of the moment that are not pruned, each with its path
 pub record AreKept (task : PlanningTask) (nodes : Keeping) (m : Moment) : Type 0 where
@@ -69,9 +73,15 @@ pub record AreWaiting (queue : List Waiting) (nodes : List Node) : Type 0 where
   pub kept : (node : Node) → Contains nodes node → node.waits ≡ true → node.kept ≡ true
 
 -- ---- novelty tables
--- the tables have the tuples of the task, and stand for all numbered nodes; a pair is open where some node has it, and no job is out
+-- the index is one of tuples of the task's atoms, and counts every two atoms that are true at a reachable state
+pub record IsIndexFor (task : PlanningTask) (settings : Settings) (index : Placing) : Type 0 where
+  pub atoms : index.atoms ≡ task.atoms
+  pub width : index.width ≡ settings.width
+  pub counted : (state : List Bool) → IsReachable task state → marked.AreCounted index state
+
+-- the tables have an index for the task, and stand for all numbered nodes; a pair is open where some node has it, and no job is out
 pub record AreTables (task : PlanningTask) (settings : Settings) (tables : NoveltyTables) (nodes : List Node) : Type 0 where
-  pub index : tables.index ≡ record { atoms = task.atoms; width = settings.width }
+  pub index : IsIndexFor task settings tables.index
   pub limit : tables.limit ≡ settings.words
   pub births : StandsFor tables (generated_in nodes)
   pub pairs : open_pairs tables ≡ pairs_in (generated_in nodes)
@@ -91,6 +101,7 @@ pub record HoldsAt (task : PlanningTask) (settings : Settings) (s : Searched) (t
   pub nodes : AreKept task s.nodes m
   pub words : AreTables task settings tables m.nodes
   pub counts : AreCounted s m
+  pub latest : AreBirths (generated_in m.nodes) s.latest.entries
 
 -- the search stands for a moment
 pub record StandsAt (task : PlanningTask) (settings : Settings) (s : Searched) (tables : NoveltyTables) (m : Moment) : Type 0 where
@@ -110,10 +121,10 @@ pub record IsTakenAt (task : PlanningTask) (settings : Settings) (s : Searched) 
   pub named : node.generated.number ≡ number
 
 -- ---- what a call may ask
--- what a run needs throughout was made for what is asked, all tuples are counted, and the jobs of a phase are all worked
-pub record IsRunOf {W : Type 0} (calls : Calls W) (work : W) (run asked : Asked) : Type 0 where
+-- what a run needs throughout was made for what is asked, so many tuples have places, and the jobs of a phase are all worked
+pub record IsRunOf {W : Type 0} (calls : Calls W) (work : W) (run asked : Asked) (tuples : ℕ) : Type 0 where
   pub same : run ≡ asked
-  pub all : run.tuples ≡ all_tuples run.task run.settings
+  pub all : run.tuples ≡ tuples
   pub works : WorksAll calls work
 
 abbrev pub HoldsAtSome : PlanningTask → Settings → Searched → NoveltyTables → Type 0
@@ -128,7 +139,7 @@ AreCountsOf task settings s tables counts = (m : Moment) → HoldsAt task settin
 
 -- ---- what a search leaves in the tables
 -- no pair, where the root's own pair wants more words than the limit; else they stand for all numbered nodes of the run
-abbrev pub LeavesTables : PlanningTask → Settings → NoveltyTables → Type 0
-LeavesTables task settings tables = MatchBool (exceeds settings.words 1 (tuple_count settings.width task.atoms))
+abbrev pub LeavesTables : PlanningTask → Settings → ℕ → NoveltyTables → Type 0
+LeavesTables task settings tuples tables = MatchBool (exceeds settings.words 1 tuples)
     (open_pairs tables ≡ [])
-    (AreTables task settings tables (run task settings (all_tuples task settings)).1.nodes)
+    (AreTables task settings tables (run task settings tuples).1.nodes)

@@ -2,7 +2,8 @@
 ghost use Rattle.std.specs.Prelude.{◌≡◌, [], ℕ, List, false, map, All, Option, None, IfOk, OnOk};
 ghost use Rattle.wp_watch.specs.declared.watch.WatchKind.{WatchKind};
 ghost use Rattle.wp_watch.specs.Places.{AreAfter, AreUntold};
-ghost use Rattle.wp_novel.specs.NoveltyTables.{open_pairs, IsAtHome};
+ghost use Rattle.wp_tuples.specs.Placing.{all_placed};
+ghost use Rattle.wp_novel.specs.NoveltyTables.{placed, open_pairs, IsAtHome};
 ghost use Rattle.wp_novel.specs.Jobs.{worked_job, IsJobOf};
 ghost use Rattle.wp_plain.specs.Places.{places_in};
 ghost use Rattle.wp_plain.specs.Ranges.{AreInRange};
@@ -53,7 +54,7 @@ pub fn search_in<R: Threads + Sync, G: Gate>(
     rt: &R,
     alloc: Global,
     task: &Task,
-    tables: &mut Tables,
+    tables: &mut Tables<TupleIndex>,
     settings: &Settings,
     gate: &G,
     watchers: &mut Watchers,
@@ -61,14 +62,14 @@ pub fn search_in<R: Threads + Sync, G: Gate>(
     requires range { AreInRange settings.now }
     requires index { tables.old.index ≡ record { atoms = task.now.atoms; width = settings.now.width } }
     requires limit { tables.old.limit ≡ settings.now.words }
-    requires empty { open_pairs tables.old ≡ [] }
+    requires empty { open_pairs (placed all_placed tables.old) ≡ [] }
     requires collected { tables.old.last ≡ None }
-    requires home { IsAtHome tables.old }
+    requires home { IsAtHome (placed all_placed tables.old) }
     requires untold { AreUntold (places_in kind until told watchers.old) }
     ensures ending { IfOk result (λ ending. ending ≡ ending_of task.now settings.now (all_tuples task.now settings.now)) }
     ensures answers { IfOk result (AnswersFor task.now settings.now (all_tuples task.now settings.now)) }
-    ensures tables { OnOk result (LeavesTables task.now settings.now tables.new) }
-    ensures home { OnOk result (IsAtHome tables.new) }
+    ensures tables { OnOk result (LeavesTables task.now settings.now (all_tuples task.now settings.now) (placed all_placed tables.new)) }
+    ensures home { OnOk result (IsAtHome (placed all_placed tables.new)) }
     ensures events { OnOk result ((list : List (WatchKind × Option ℕ)) →
         AreAfter list [] (places_in kind until told watchers.old) →
         AreAfter list (run task.now settings.now (all_tuples task.now settings.now)).1.events (places_in kind until told watchers.new)) }
@@ -80,14 +81,14 @@ pub fn search_in<R: Threads + Sync, G: Gate>(
         return Ok(root_alone());
     }
     let asked = wp_plain::Run::of(alloc, task, *settings, tuples);
-    let own = Run::of(alloc, task, *settings)?;
+    let own = Run::of(alloc, task, *settings, tuples)?;
     // The store has the tables while it is searched.
     let index = TupleIndex::new(task.atoms(), settings.width);
     let empty = mem::replace(tables, Tables::new(alloc, index, settings.words));
     // The jobs are worked from here on, where the bounds of the threads and of the gate are known of every thread.
-    let work = |whole: &Tables, jobs: MarkJobs| -> MarkJobs
-        requires { All (IsJobOf whole.now false) jobs }
-        ensures { result ≡ map (worked_job whole.now.index) jobs }
+    let work = |whole: &Tables<TupleIndex>, jobs: MarkJobs| -> MarkJobs
+        requires { All (IsJobOf (placed all_placed whole.now) false) jobs }
+        ensures { result ≡ map (worked_job (all_placed whole.now.index)) jobs }
     { work_all(rt, whole, gate, jobs) };
     let mut store = opening(own, work, empty)?;
     let ending = search_from(&asked, &mut store, watchers)?;

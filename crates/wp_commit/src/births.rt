@@ -1,16 +1,20 @@
 //! The numbers and novelties of the children of an expansion.
-ghost use Rattle.std.specs.Prelude.{◌≡◌, ◌+◌, ◌<◌, ◌^◌, ◌++◌, List, false, length, map, All, Contains, IfOk, OnOk, IfSome};
+ghost use Rattle.std.specs.Prelude.{◌≡◌, ◌+◌, ◌<◌, ◌^◌, ◌++◌, ℕ, List, false, length, map, All, Contains, IfOk, OnOk, IfSome};
 ghost use Rattle.wp_task.specs.Novelty.{Generated, novelty_of};
-ghost use Rattle.wp_novel.specs.NoveltyTables.{open_pairs, IsAtHome, IsOpen};
+ghost use Rattle.wp_tuples.specs.Placing.{all_placed};
+ghost use Rattle.wp_novel.specs.Births.{nodes_of};
+ghost use Rattle.wp_novel.specs.NoveltyTables.{placed, open_pairs, IsAtHome};
 ghost use Rattle.wp_novel.specs.StandsFor.{StandsFor};
 ghost use Rattle.wp_plain.specs.Explored.{numbered, all_numbered};
-ghost use Rattle.wp_plain.specs.Pairs.{exceeds, tuple_count};
-ghost use Rattle.wp_commit.specs.Newborns.{rest_of, child_with, newborns_of, HasOpenPair};
+ghost use Rattle.wp_plain.specs.Pairs.{exceeds};
+ghost use Rattle.wp_commit.specs.Newborns.{rest_of, child_with, newborns_of};
+ghost use Rattle.wp_commit.specs.Entering.{IsFresh, StandsForEarlier, CanBeBorn, CanBeAsked};
 ghost use Rattle.wp_commit.specs.Expansions.{IsExpansionOf, IsEnteredOf};
 ghost use Rattle.wp_commit.specs.Searched.{IsTakenAtSome};
 ghost use Rattle.wp_commit.specs.Phases.{WorksAll};
 
 use crate::evaluation::Expansion;
+use crate::fresh::fresh_of;
 use crate::marking::mark_all;
 use crate::newborn::Newborn;
 use crate::pairs::open_all;
@@ -18,9 +22,11 @@ use crate::run::Run;
 use crate::searched::{Searched, node_at};
 use std::alloc::{AllocError, Global};
 use wp_count::{Child, counters_are_carried};
-use wp_novel::{Birth, Births, MarkJobs, Pair, Tables};
+use wp_nodes::Kept;
+use wp_novel::{Birth, Births, MarkJobs, Pair, Tables, no_tuple_is_old, shared_tuples_are_marked};
 use wp_plain::{children_are_numbered, nodes_are_numbered};
 use wp_task::{State, Track};
+use wp_tuples::TupleIndex;
 
 /// An expansion whose children are numbered: they stand here with their novelties.
 #[derive(Drop)]
@@ -35,84 +41,94 @@ pub(crate) struct Numbered {
 pub(crate) struct Rest {
     pub act: u32,
     pub got: State,
-    pub fresh: Option<Track>,
+    pub track: Option<Track>,
 }
 
 /// Opens the pairs of an expansion, which are within the limit of words, numbers its children, marks them in the tables, and
 /// reads their novelties. Where memory is refused the tables are spent.
-pub(crate) fn enter<W: Fn(&Tables, MarkJobs) -> MarkJobs>(
+pub(crate) fn enter<W: Fn(&Tables<TupleIndex>, MarkJobs) -> MarkJobs>(
     run: &Run,
     work: &W,
     searched: &Searched,
-    tables: &mut Tables,
+    tables: &mut Tables<TupleIndex>,
     number: u64,
     expansion: Expansion,
 ) -> Result<Numbered, AllocError>
     requires works { WorksAll W.Fn work.now }
-    requires taken { IsTakenAtSome run.now.task run.now.settings searched.now tables.old number }
-    requires evaluated { IsExpansionOf run.now.task searched.now tables.old number expansion }
-    requires numbers { searched.now.numbered + length expansion.fresh.items < 2 ^ 63 }
-    requires few { exceeds run.now.settings.words (length (open_pairs tables.old) + length expansion.pairs.items) (tuple_count run.now.settings.width run.now.task.atoms) ≡ false }
-    ensures { IfOk result (IsEnteredOf run.now.task run.now.settings searched.now tables.old number expansion tables.new) }
+    requires taken { IsTakenAtSome run.now.task run.now.settings searched.now (placed all_placed tables.old) number }
+    requires evaluated { IsExpansionOf run.now.task searched.now (placed all_placed tables.old) number expansion }
+    requires numbers { searched.now.numbered + length expansion.children.items < 2 ^ 63 }
+    requires few { exceeds run.now.settings.words (length (open_pairs (placed all_placed tables.old)) + length expansion.pairs.items)
+        (all_placed tables.old.index).len ≡ false }
+    ensures { IfOk result (IsEnteredOf run.now.task run.now.settings searched.now (placed all_placed tables.old) number expansion
+        (placed all_placed tables.new)) }
 {
     counters_are_carried();
     children_are_numbered();
     nodes_are_numbered();
     let Expansion {
-        fresh,
+        children,
         repeats,
         pairs,
     } = expansion;
+    let parent = node_at(run, searched, tables, number);
     open_all(tables, pairs)?;
-    let newborns = number_all(run, work, tables, searched.numbered, fresh)?;
+    let newborns = number_all(run, work, searched, parent, tables, children)?;
     Ok(Numbered { newborns, repeats })
 }
 
-/// Numbers the children from `first` on, marks them in the tables, and reads their novelties: all are marked before the first of them
-/// is asked for, since a later one makes no tuple old for it. Where memory is refused the tables are spent.
-fn number_all<W: Fn(&Tables, MarkJobs) -> MarkJobs>(
+/// Numbers the children of the node `parent`, marks them in the tables, and reads their novelties: all are marked before the first of
+/// them is asked for, since a later one makes no tuple old for it. Where memory is refused the tables are spent.
+fn number_all<W: Fn(&Tables<TupleIndex>, MarkJobs) -> MarkJobs>(
     run: &Run,
     work: &W,
-    tables: &mut Tables,
-    first: u64,
+    searched: &Searched,
+    parent: &Kept,
+    tables: &mut Tables<TupleIndex>,
     children: Vec<Child>,
 ) -> Result<Vec<Newborn>, AllocError>
     requires works { WorksAll W.Fn work.now }
-    requires home { IsAtHome tables.old }
-    requires open { All (HasOpenPair tables.old) children.items }
-    requires sizes { All (λ c. length c.state ≡ tables.old.index.atoms) children.items }
-    requires numbers { first + length children.items < 2 ^ 63 }
-    requires later { IfSome tables.old.last (λ last. last < first) }
-    ensures newborns { IfOk result (λ newborns. (nodes : List Generated) → StandsFor tables.old nodes →
-        newborns.items ≡ newborns_of tables.old.index.width (nodes ++ all_numbered first children.items) first children.items) }
-    ensures stands { OnOk result ((nodes : List Generated) → StandsFor tables.old nodes →
-        StandsFor tables.new (nodes ++ all_numbered first children.items)) }
-    ensures home { OnOk result (IsAtHome tables.new) }
-    ensures pairs { OnOk result (open_pairs tables.new ≡ open_pairs tables.old) }
-    ensures index { OnOk result (tables.new.index ≡ tables.old.index) }
+    requires home { IsAtHome (placed all_placed tables.old) }
+    requires ready { All (CanBeBorn (placed all_placed tables.old)) children.items }
+    requires numbers { searched.now.numbered + length children.items < 2 ^ 63 }
+    requires later { IfSome tables.old.last (λ last. last < searched.now.numbered) }
+    requires earlier { StandsForEarlier searched.now parent.now (placed all_placed tables.old) }
+    ensures newborns { IfOk result (λ newborns. (nodes : List Generated) → StandsFor (placed all_placed tables.old) nodes →
+        newborns.items ≡ newborns_of (all_placed tables.old.index).width
+        (nodes ++ all_numbered searched.now.numbered children.items) searched.now.numbered children.items) }
+    ensures stands { OnOk result ((nodes : List Generated) → StandsFor (placed all_placed tables.old) nodes →
+        StandsFor (placed all_placed tables.new) (nodes ++ all_numbered searched.now.numbered children.items)) }
+    ensures home { OnOk result (IsAtHome (placed all_placed tables.new)) }
+    ensures pairs { OnOk result (open_pairs (placed all_placed tables.new) ≡ open_pairs (placed all_placed tables.old)) }
+    ensures index { OnOk result (all_placed tables.new.index ≡ all_placed tables.old.index) }
     ensures limit { OnOk result (tables.new.limit ≡ tables.old.limit) }
 {
-    let (births, rests) = births_of(run.alloc, first, children)?;
+    // What an earlier birth shares with a child is marked, and where all atoms of a child are new nothing is shared.
+    shared_tuples_are_marked();
+    no_tuple_is_old();
+    let (births, rests) = births_of(run.alloc, searched, parent, children)?;
     let births = mark_all(run, work, tables, births)?;
-    newborns_of(run.alloc, tables, births.into_vec(), rests, first)
+    newborns_of(run.alloc, tables, births.into_vec(), rests)
 }
 
-/// The children as births, which have their states, and what else they have.
+/// The children of the node `parent` as births, which have their states, and what else they have.
 fn births_of(
     alloc: Global,
-    first: u64,
+    searched: &Searched,
+    parent: &Kept,
     children: Vec<Child>,
 ) -> Result<(Births, Vec<Rest>), AllocError>
-    requires { first + length children.items < 2 ^ 63 }
-    ensures births { IfOk result (λ parts. parts.0 ≡ all_numbered first children.items) }
+    requires { searched.now.numbered + length children.items < 2 ^ 63 }
+    ensures births { IfOk result (λ parts. nodes_of parts.0 ≡ all_numbered searched.now.numbered children.items) }
+    ensures fresh { IfOk result (λ parts. All (IsFresh searched.now parent.now) parts.0) }
     ensures rests { IfOk result (λ parts. parts.1.items ≡ map rest_of children.items) }
 {
     let count = children.len();
     let mut births = Vec::with_capacity(alloc, count)?;
     let mut rests = Vec::with_capacity(alloc, count)?;
     for child in children {
-        let number = first + births.len() as u64;
-        let (birth, rest) = birth_of(alloc, number, child)?;
+        let number = searched.numbered + births.len() as u64;
+        let (birth, rest) = birth_of(alloc, searched, parent, number, child)?;
         births.push(birth)?;
         rests.push(rest)?;
     }
@@ -120,8 +136,15 @@ fn births_of(
 }
 
 /// A child as a birth, and what else it has.
-fn birth_of(alloc: Global, number: u64, child: Child) -> Result<(Birth, Rest), AllocError>
-    ensures birth { IfOk result (λ parts. parts.0 ≡ numbered number child) }
+fn birth_of(
+    alloc: Global,
+    searched: &Searched,
+    parent: &Kept,
+    number: u64,
+    child: Child,
+) -> Result<(Birth, Rest), AllocError>
+    ensures birth { IfOk result (λ parts. parts.0.node ≡ numbered number child) }
+    ensures fresh { IfOk result (λ parts. IsFresh searched.now parent.now parts.0) }
     ensures rest { IfOk result (λ parts. parts.1 ≡ rest_of child) }
 {
     let Child {
@@ -130,28 +153,28 @@ fn birth_of(alloc: Global, number: u64, child: Child) -> Result<(Birth, Rest), A
         g,
         r,
         got,
-        fresh,
+        fresh: track,
     } = child;
-    let birth = Birth::of(alloc, number, Pair { g, r }, state)?;
-    Ok((birth, Rest { act, got, fresh }))
+    let pair = Pair { g, r };
+    let fresh = fresh_of(alloc, searched, parent, pair, &state)?;
+    let birth = Birth::of(alloc, number, pair, state, fresh)?;
+    Ok((birth, Rest { act, got, track }))
 }
 
 /// The children with their numbers and novelties, once they are marked as these births.
 fn newborns_of(
     alloc: Global,
-    tables: &mut Tables,
+    tables: &mut Tables<TupleIndex>,
     births: Vec<Birth>,
     rests: Vec<Rest>,
-    first: u64,
 ) -> Result<Vec<Newborn>, AllocError>
     requires parts { length rests.items ≡ length births.items }
-    requires home { IsAtHome tables.old }
-    requires open { All (λ b. IsOpen tables.old b.counters) births.items }
-    requires sizes { All (λ b. length b.state ≡ tables.old.index.atoms) births.items }
-    ensures newborns { IfOk result (λ newborns. (nodes : List Generated) (children : List Child) →
-        births.items ≡ all_numbered first children → rests.items ≡ map rest_of children →
-        StandsFor tables.old (nodes ++ all_numbered first children) →
-        newborns.items ≡ newborns_of tables.old.index.width (nodes ++ all_numbered first children) first children) }
+    requires home { IsAtHome (placed all_placed tables.old) }
+    requires asked { All (CanBeAsked (placed all_placed tables.old)) births.items }
+    ensures newborns { IfOk result (λ newborns. (nodes : List Generated) (first : ℕ) (children : List Child) →
+        nodes_of births.items ≡ all_numbered first children → rests.items ≡ map rest_of children →
+        StandsFor (placed all_placed tables.old) (nodes ++ all_numbered first children) →
+        newborns.items ≡ newborns_of (all_placed tables.old.index).width (nodes ++ all_numbered first children) first children) }
     ensures same { tables.new ≡ tables.old }
 {
     let mut newborns = Vec::with_capacity(alloc, births.len())?;
@@ -167,27 +190,26 @@ fn newborns_of(
 }
 
 /// The child of a birth, with its number and novelty.
-fn newborn_of(tables: &mut Tables, birth: Birth, rest: Rest) -> Newborn
-    requires home { IsAtHome tables.old }
-    requires pair { IsOpen tables.old birth.counters }
-    requires size { length birth.state ≡ tables.old.index.atoms }
-    ensures number { result.number ≡ birth.number }
-    ensures novelty { (births : List Generated) → StandsFor tables.old births → Contains births birth →
-        result.w ≡ novelty_of tables.old.index.width births birth }
-    ensures child { result.child ≡ child_with birth rest }
+fn newborn_of(tables: &mut Tables<TupleIndex>, birth: Birth, rest: Rest) -> Newborn
+    requires home { IsAtHome (placed all_placed tables.old) }
+    requires asked { CanBeAsked (placed all_placed tables.old) birth }
+    ensures number { result.number ≡ birth.node.number }
+    ensures novelty { (births : List Generated) → StandsFor (placed all_placed tables.old) births → Contains births birth.node →
+        result.w ≡ novelty_of (all_placed tables.old.index).width births birth.node }
+    ensures child { result.child ≡ child_with birth.node rest }
     ensures same { tables.new ≡ tables.old }
 {
     let number = birth.number();
     let Pair { g, r } = birth.pair();
     let w = tables.novelty(&birth);
-    let Rest { act, got, fresh } = rest;
+    let Rest { act, got, track } = rest;
     let child = Child {
         act,
         state: birth.into_state(),
         g,
         r,
         got,
-        fresh,
+        fresh: track,
     };
     Newborn { number, w, child }
 }

@@ -2,6 +2,8 @@
 ghost use Rattle.std.specs.Prelude.{◌≡◌, length, map, All, IfOk, OnOk};
 ghost use Rattle.wp_count.specs.Broods.{child_of, IsCountOn};
 ghost use Rattle.wp_relax.specs.Workspace.{room_for};
+ghost use Rattle.wp_tuples.specs.Placing.{all_placed};
+ghost use Rattle.wp_novel.specs.NoveltyTables.{placed};
 ghost use Rattle.wp_commit.specs.Searched.{IsTakenAtSome};
 ghost use Rattle.wp_commit.specs.Expansions.{IsExpansionOf};
 
@@ -15,12 +17,13 @@ use wp_novel::{Pair, Tables};
 use wp_relax::Workspace;
 use wp_succ::Successors;
 use wp_task::{Mark, Task, Track};
+use wp_tuples::TupleIndex;
 
 /// An expansion of a kept node as it is evaluated: the children that are no repeats, the number of repeats, and the
 /// counter pairs of these children that are not open, each once.
 #[derive(Drop)]
 pub(crate) struct Expansion {
-    pub fresh: Vec<Child>,
+    pub children: Vec<Child>,
     pub repeats: u64,
     pub pairs: Vec<Pair>,
 }
@@ -29,11 +32,11 @@ pub(crate) struct Expansion {
 pub(crate) fn expansion_of(
     run: &mut Run,
     searched: &Searched,
-    tables: &Tables,
+    tables: &Tables<TupleIndex>,
     number: u64,
 ) -> Result<Expansion, AllocError>
-    requires taken { IsTakenAtSome run.old.task run.old.settings searched.now tables.now number }
-    ensures evaluated { IfOk result (IsExpansionOf run.old.task searched.now tables.now number) }
+    requires taken { IsTakenAtSome run.old.task run.old.settings searched.now (placed all_placed tables.now) number }
+    ensures evaluated { IfOk result (IsExpansionOf run.old.task searched.now (placed all_placed tables.now) number) }
     ensures same { OnOk result (run.new ≡ run.old) }
 {
     let node = node_at(run, searched, tables, number);
@@ -41,17 +44,17 @@ pub(crate) fn expansion_of(
     let acts = run.succ.list(run.alloc, run.task, &node.state)?;
     let reached = unseen(run.alloc, run.task, &searched.nodes, &node.state, &acts)?;
     let repeats = (acts.as_slice().len() - reached.len()) as u64;
-    let fresh = children_of(
+    let children = children_of(
         run.alloc,
         run.task,
-        &mut run.work,
+        &mut run.workspace,
         &node.mark,
         track,
         reached,
     )?;
-    let pairs = new_pairs(run.alloc, tables, &fresh)?;
+    let pairs = new_pairs(run.alloc, tables, &children)?;
     Ok(Expansion {
-        fresh,
+        children,
         repeats,
         pairs,
     })
@@ -61,21 +64,21 @@ pub(crate) fn expansion_of(
 fn children_of(
     alloc: Global,
     task: &Task,
-    work: &mut Workspace,
+    workspace: &mut Workspace,
     mark: &Mark,
     track: &Track,
     reached: Vec<Reached>,
 ) -> Result<Vec<Child>, AllocError>
-    requires serves { work.old ≡ room_for task.now }
+    requires serves { workspace.old ≡ room_for task.now }
     requires sizes { All (λ x. length x.state ≡ task.now.atoms) reached.items }
     requires counts { IsCountOn task.now mark.now track.now }
     ensures value { IfOk result (λ children. children.items ≡ map (λ x. child_of task.now mark.now track.now x.act x.state) reached.items) }
-    ensures room { work.new ≡ work.old }
+    ensures room { workspace.new ≡ workspace.old }
 {
     let mut children = Vec::with_capacity(alloc, reached.len())?;
     for next in reached {
         let (act, state) = next.into_parts();
-        let child = evaluate(alloc, task, work, act, state, mark, track)?;
+        let child = evaluate(alloc, task, workspace, act, state, mark, track)?;
         children.push(child)?;
     }
     Ok(children)

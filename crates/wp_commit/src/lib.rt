@@ -10,7 +10,9 @@
 pub mod best_first;
 mod births;
 mod evaluation;
+mod fresh;
 mod keep;
+mod latest;
 mod marking;
 mod newborn;
 mod pairs;

@@ -1,14 +1,16 @@
 //! The opening: the root alone.
 ghost use Rattle.std.specs.Prelude.{◌≡◌, ◌<◌, ◌≤◌, ◌^◌, [], ◌∷◌, None, length, false, IfOk, OnOk};
 ghost use Rattle.wp_task.specs.Novelty.{novelty_of};
-ghost use Rattle.wp_tuples.specs.TuplePlaces.{tuples_of};
-ghost use Rattle.wp_novel.specs.NoveltyTables.{open_pairs, IsAtHome};
+ghost use Rattle.wp_tuples.specs.Placing.{all_placed};
+ghost use Rattle.wp_novel.specs.MarkedTuples.{AreCounted};
+ghost use Rattle.wp_novel.specs.NoveltyTables.{placed, open_pairs, IsAtHome};
 ghost use Rattle.wp_novel.specs.StandsFor.{StandsFor};
-ghost use Rattle.wp_plain.specs.Pairs.{tuple_count, exceeds};
+ghost use Rattle.wp_plain.specs.Pairs.{exceeds};
 ghost use Rattle.wp_plain.specs.Run.{opening};
-ghost use Rattle.wp_commit.specs.Searched.{StandsAt};
+ghost use Rattle.wp_commit.specs.Searched.{IsIndexFor, StandsAt};
 ghost use Rattle.wp_commit.specs.Phases.{WorksAll};
 
+use crate::latest::root_latest;
 use crate::marking::mark_all;
 use crate::pairs::open;
 use crate::run::Run;
@@ -17,24 +19,26 @@ use crate::store::Store;
 use std::alloc::AllocError;
 use wp_count::counters_are_carried;
 use wp_nodes::{Kept, Nodes};
-use wp_novel::{Birth, Births, MarkJobs, Pair, Tables};
+use wp_novel::{Birth, Births, MarkJobs, Pair, Tables, no_tuple_is_old};
 use wp_queue::Queue;
+use wp_tuples::TupleIndex;
 
 /// The root, marked in tables that are empty, kept and waiting.
-pub(crate) fn opening<W: Fn(&Tables, MarkJobs) -> MarkJobs>(
+pub(crate) fn opening<W: Fn(&Tables<TupleIndex>, MarkJobs) -> MarkJobs>(
     run: Run,
     work: W,
-    tables: Tables,
+    tables: Tables<TupleIndex>,
 ) -> Result<Store<W>, AllocError>
     requires works { WorksAll W.Fn work }
-    requires index { tables.index ≡ record { atoms = run.task.atoms; width = run.settings.width } }
+    requires index { IsIndexFor run.task run.settings (all_placed tables.index) }
     requires limit { tables.limit ≡ run.settings.words }
-    requires empty { open_pairs tables ≡ [] }
+    requires empty { open_pairs (placed all_placed tables) ≡ [] }
     requires collected { tables.last ≡ None }
-    requires home { IsAtHome tables }
-    requires few { exceeds run.settings.words 1 (tuple_count run.settings.width run.task.atoms) ≡ false }
-    ensures stands { IfOk result (λ store. StandsAt run.entry.task run.entry.settings store.searched store.tables (opening run.entry.task run.entry.settings)) }
+    requires home { IsAtHome (placed all_placed tables) }
+    requires few { exceeds run.settings.words 1 (all_placed tables.index).len ≡ false }
+    ensures stands { IfOk result (λ store. StandsAt run.entry.task run.entry.settings store.searched (placed all_placed store.tables) (opening run.entry.task run.entry.settings)) }
     ensures run { IfOk result (λ store. store.run ≡ run.entry) }
+    ensures index { IfOk result (λ store. all_placed store.tables.index ≡ all_placed tables.index) }
     ensures works { IfOk result (λ store. WorksAll W.Fn store.work) }
 {
     let mut tables = tables;
@@ -48,19 +52,20 @@ pub(crate) fn opening<W: Fn(&Tables, MarkJobs) -> MarkJobs>(
 }
 
 /// The root alone, over these tables.
-fn root_of<W: Fn(&Tables, MarkJobs) -> MarkJobs>(
+fn root_of<W: Fn(&Tables<TupleIndex>, MarkJobs) -> MarkJobs>(
     run: &Run,
     work: &W,
-    tables: &mut Tables,
+    tables: &mut Tables<TupleIndex>,
 ) -> Result<Searched, AllocError>
     requires works { WorksAll W.Fn work.now }
-    requires index { tables.old.index ≡ record { atoms = run.now.task.atoms; width = run.now.settings.width } }
+    requires index { IsIndexFor run.now.task run.now.settings (all_placed tables.old.index) }
     requires limit { tables.old.limit ≡ run.now.settings.words }
-    requires empty { open_pairs tables.old ≡ [] }
+    requires empty { open_pairs (placed all_placed tables.old) ≡ [] }
     requires collected { tables.old.last ≡ None }
-    requires home { IsAtHome tables.old }
-    requires few { exceeds run.now.settings.words 1 (tuple_count run.now.settings.width run.now.task.atoms) ≡ false }
-    ensures { IfOk result (λ searched. StandsAt run.now.task run.now.settings searched tables.new (opening run.now.task run.now.settings)) }
+    requires home { IsAtHome (placed all_placed tables.old) }
+    requires few { exceeds run.now.settings.words 1 (all_placed tables.old.index).len ≡ false }
+    ensures stands { IfOk result (λ searched. StandsAt run.now.task run.now.settings searched (placed all_placed tables.new) (opening run.now.task run.now.settings)) }
+    ensures index { OnOk result (all_placed tables.new.index ≡ all_placed tables.old.index) }
 {
     // The law of the counters: what is kept of a node gives those of its whole path.
     counters_are_carried();
@@ -68,7 +73,8 @@ fn root_of<W: Fn(&Tables, MarkJobs) -> MarkJobs>(
     let (state, mark, track) = wp_count::root_of(alloc, run.task)?;
     let g = mark.g;
     let copy = state.copy(alloc)?;
-    let root = Birth::of(alloc, 0, Pair { g, r: mark.r }, copy)?;
+    let pair = Pair { g, r: mark.r };
+    let root = Birth::of(alloc, 0, pair, copy, None)?;
     let w = mark_root(run, work, tables, root)?;
     let mut nodes = Nodes::new(alloc);
     nodes.add_track(track)?;
@@ -81,9 +87,11 @@ fn root_of<W: Fn(&Tables, MarkJobs) -> MarkJobs>(
     })?;
     let mut queue = Queue::new(alloc);
     queue.put(w, g, 0)?;
+    let latest = root_latest(alloc, pair)?;
     Ok(Searched {
         nodes,
         queue,
+        latest,
         numbered: 1,
         kept: 1,
         expanded: 0,
@@ -92,26 +100,30 @@ fn root_of<W: Fn(&Tables, MarkJobs) -> MarkJobs>(
 }
 
 /// Opens the root's pair, marks the root, and reads its novelty: a phase of one job.
-fn mark_root<W: Fn(&Tables, MarkJobs) -> MarkJobs>(
+fn mark_root<W: Fn(&Tables<TupleIndex>, MarkJobs) -> MarkJobs>(
     run: &Run,
     work: &W,
-    tables: &mut Tables,
+    tables: &mut Tables<TupleIndex>,
     root: Birth,
 ) -> Result<u8, AllocError>
     requires works { WorksAll W.Fn work.now }
-    requires empty { open_pairs tables.old ≡ [] }
+    requires empty { open_pairs (placed all_placed tables.old) ≡ [] }
     requires collected { tables.old.last ≡ None }
-    requires home { IsAtHome tables.old }
-    requires within { length (tuples_of tables.old.index) ≤ tables.old.limit }
-    requires size { length root.state ≡ tables.old.index.atoms }
-    requires number { root.number < 2 ^ 63 }
-    ensures novelty { IfOk result (λ w. w ≡ novelty_of tables.old.index.width (root ∷ []) root) }
-    ensures stands { OnOk result (StandsFor tables.new (root ∷ [])) }
-    ensures pairs { OnOk result (open_pairs tables.new ≡ root.counters ∷ []) }
-    ensures home { OnOk result (IsAtHome tables.new) }
-    ensures index { OnOk result (tables.new.index ≡ tables.old.index) }
+    requires home { IsAtHome (placed all_placed tables.old) }
+    requires within { (all_placed tables.old.index).len ≤ tables.old.limit }
+    requires size { length root.node.state ≡ (all_placed tables.old.index).atoms }
+    requires counted { AreCounted (all_placed tables.old.index) root.node.state }
+    requires number { root.node.number < 2 ^ 63 }
+    requires fresh { root.fresh ≡ None }
+    ensures novelty { IfOk result (λ w. w ≡ novelty_of (all_placed tables.old.index).width (root.node ∷ []) root.node) }
+    ensures stands { OnOk result (StandsFor (placed all_placed tables.new) (root.node ∷ [])) }
+    ensures pairs { OnOk result (open_pairs (placed all_placed tables.new) ≡ root.node.counters ∷ []) }
+    ensures home { OnOk result (IsAtHome (placed all_placed tables.new)) }
+    ensures index { OnOk result ((all_placed tables.new.index) ≡ (all_placed tables.old.index)) }
     ensures limit { OnOk result (tables.new.limit ≡ tables.old.limit) }
 {
+    // All atoms of the root are new.
+    no_tuple_is_old();
     open(tables, root.pair())?;
     let mut births = Vec::new(run.alloc);
     births.push(root)?;

@@ -1,19 +1,26 @@
 //! What the search keeps besides the novelty tables.
 ghost use Rattle.std.specs.Prelude.{◌≡◌, ◌<◌, Some, length, Contains};
 ghost use Rattle.wp_nodes.specs.KeptNodes.{node_of, AreLinked};
+ghost use Rattle.wp_tuples.specs.Placing.{all_placed};
+ghost use Rattle.wp_novel.specs.NoveltyTables.{placed};
 ghost use Rattle.wp_commit.specs.Searched.{HoldsAtSome, IsTakenAtSome, AreCountsOf};
 
+use crate::latest::Latest;
 use crate::run::Run;
+use indexmap::IndexMap;
 use wp_nodes::{Kept, Nodes};
-use wp_novel::Tables;
+use wp_novel::{Pair, Tables};
 use wp_plain::Counts;
 use wp_queue::Queue;
+use wp_tuples::TupleIndex;
 
-/// The search so far. Of a pruned node nothing is kept here: it has its number, and its tuples are marked in the tables.
+/// The search so far. Of a pruned node nothing is kept here, unless it is the latest birth of its pair: it has its number, and its
+/// tuples are marked in the tables.
 #[derive(Drop)]
 pub(crate) struct Searched {
     pub nodes: Nodes,
     pub queue: Queue,
+    pub latest: IndexMap<Pair, Latest>,
     pub numbered: u64,
     pub kept: u64,
     pub expanded: u64,
@@ -24,10 +31,10 @@ pub(crate) struct Searched {
 pub(crate) fn node_at<'a>(
     run: &Run,
     searched: &'a Searched,
-    tables: &Tables,
+    tables: &Tables<TupleIndex>,
     number: u64,
 ) -> &'a Kept
-    requires taken { IsTakenAtSome run.now.task run.now.settings searched.now tables.now number }
+    requires taken { IsTakenAtSome run.now.task run.now.settings searched.now (placed all_placed tables.now) number }
     ensures node { node_of searched.now.nodes.kept number ≡ Some result.now }
     ensures there { Contains searched.now.nodes.kept result.now }
     ensures named { result.now.number ≡ number }
@@ -41,9 +48,9 @@ pub(crate) fn node_at<'a>(
 }
 
 /// What was counted.
-pub(crate) fn counts_of(run: &Run, searched: &Searched, tables: &Tables) -> Counts
-    requires { HoldsAtSome run.now.task run.now.settings searched.now tables.now }
-    ensures { AreCountsOf run.now.task run.now.settings searched.now tables.now result }
+pub(crate) fn counts_of(run: &Run, searched: &Searched, tables: &Tables<TupleIndex>) -> Counts
+    requires { HoldsAtSome run.now.task run.now.settings searched.now (placed all_placed tables.now) }
+    ensures { AreCountsOf run.now.task run.now.settings searched.now (placed all_placed tables.now) result }
 {
     Counts {
         expanded: searched.expanded,

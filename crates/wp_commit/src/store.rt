@@ -11,6 +11,7 @@ use wp_count::counters_are_carried;
 use wp_novel::{MarkJobs, Tables};
 use wp_plain::{BestFirst, Counts, children_are_numbered, first_is_least, nodes_are_numbered};
 use wp_task::Atoms;
+use wp_tuples::TupleIndex;
 use wp_watch::Event;
 
 /// What a run needs throughout, what works the jobs of a phase, and what the search keeps.
@@ -19,25 +20,27 @@ pub(crate) struct Store<'a, W> {
     pub run: Run<'a>,
     pub work: W,
     pub searched: Searched,
-    pub tables: Tables,
+    pub tables: Tables<TupleIndex>,
 }
 
-impl<'a, W: Fn(&Tables, MarkJobs) -> MarkJobs> BestFirst for Store<'a, W> {
+impl<'a, W: Fn(&Tables<TupleIndex>, MarkJobs) -> MarkJobs> BestFirst for Store<'a, W> {
     ghost use Rattle.wp_commit.specs.Searched.{HoldsAt, StandsAt, IsTakenAt, IsRunOf};
+    ghost use Rattle.wp_tuples.specs.Placing.{all_placed};
+    ghost use Rattle.wp_novel.specs.NoveltyTables.{placed};
     ghost use Rattle.wp_commit.specs.Expansions.{IsExpansionOf};
 
     type Expansion = Expansion;
 
-    ghost stands = { λ s asked m. IsRunOf W.Fn s.work s.run asked × StandsAt s.run.task s.run.settings s.searched s.tables m };
+    ghost stands = { λ s asked m. IsRunOf W.Fn s.work s.run asked (all_placed s.tables.index).len × StandsAt s.run.task s.run.settings s.searched (placed all_placed s.tables) m };
 
-    ghost holds = { λ s asked m. IsRunOf W.Fn s.work s.run asked × HoldsAt s.run.task s.run.settings s.searched s.tables m };
+    ghost holds = { λ s asked m. IsRunOf W.Fn s.work s.run asked (all_placed s.tables.index).len × HoldsAt s.run.task s.run.settings s.searched (placed all_placed s.tables) m };
 
-    ghost has_taken = { λ s asked m node number. IsRunOf W.Fn s.work s.run asked
-        × IsTakenAt s.run.task s.run.settings s.searched s.tables m node number };
+    ghost has_taken = { λ s asked m node number. IsRunOf W.Fn s.work s.run asked (all_placed s.tables.index).len
+        × IsTakenAt s.run.task s.run.settings s.searched (placed all_placed s.tables) m node number };
 
-    ghost has_evaluated = { λ s asked m node number x. IsRunOf W.Fn s.work s.run asked
-        × IsTakenAt s.run.task s.run.settings s.searched s.tables m node number
-        × IsExpansionOf s.run.task s.searched s.tables number x };
+    ghost has_evaluated = { λ s asked m node number x. IsRunOf W.Fn s.work s.run asked (all_placed s.tables.index).len
+        × IsTakenAt s.run.task s.run.settings s.searched (placed all_placed s.tables) m node number
+        × IsExpansionOf s.run.task s.searched (placed all_placed s.tables) number x };
 
     ghost standing_holds = { λ s asked m stands. (stands.0, stands.1.holds) };
 

@@ -64,6 +64,10 @@ abbrev pub children_of : PlanningTask → List Bool → Mark → List ℕ → Li
 children_of task state mark track =
     map (λ a. child_of task mark track a (result_of (act_at task.acts a) state)) (applicable_in task.acts state)
 
+-- the brood of a node of this number, which has the state, the mark and the track
+abbrev pub brood_of : PlanningTask → ℕ → List Bool → Mark → List ℕ → EvaluatedNode
+brood_of task number state mark track = record { number = number; children = children_of task state mark track }
+
 -- the mark of the root: nothing is achieved on track 0
 abbrev pub root_mark : PlanningTask → Mark
 root_mark task = record {

@@ -4,7 +4,7 @@ ghost use Rattle.wp_task.specs.Set.{atoms_in};
 ghost use Rattle.wp_task.specs.Task.{act_at, goal_counter, result_of};
 ghost use Rattle.wp_relax.specs.RelaxedPlan.{relaxed_atoms_of};
 ghost use Rattle.wp_relax.specs.Workspace.{room_for};
-ghost use Rattle.wp_count.specs.Broods.{IsCountOn, IsMarkOf, with_achieved, base_child, child_of, children_of, root_mark};
+ghost use Rattle.wp_count.specs.Broods.{IsCountOn, IsMarkOf, with_achieved, base_child, child_of, brood_of, root_mark};
 ghost use Rattle.wp_count.specs.Laws.{IsMarked};
 
 use crate::brood::{Brood, Child, Children};
@@ -43,7 +43,7 @@ pub fn brood_of<S: Successors>(
     requires serves { IsTrue (S.serves succ.now task.now) }
     requires size { length state.now ≡ task.now.atoms }
     requires marked { IsMarkOf task.now state.now mark.now track.now }
-    ensures value { IfOk result (λ brood. brood ≡ record { number = number; children = children_of task.now state.now mark.now track.now }) }
+    ensures value { IfOk result (λ brood. brood ≡ brood_of task.now number state.now mark.now track.now) }
     ensures few { IfOk result (λ brood. length brood.children ≤ length task.now.acts) }
 {
     let acts = succ.list(alloc, task, state)?;

@@ -10,11 +10,13 @@ use Rattle.wp_syntax.specs.declared.records.Name.{Name}
 use Rattle.wp_syntax.specs.declared.records.Typed.{Typed}
 use Rattle.wp_syntax.specs.declared.records.AtomText.{AtomText}
 use Rattle.wp_syntax.specs.declared.records.InitItem.{InitItem}
+use Rattle.wp_syntax.specs.declared.items.InitFact.{InitFact}
 use Rattle.wp_syntax.specs.declared.records.Problem.{Problem}
 use Rattle.wp_syntax.specs.declared.problem.Entries.{Entries}
 use Rattle.wp_syntax.specs.declared.typing.Role.TheVariants as roles
 use Rattle.wp_syntax.specs.Reading.{Read, fine, each, ◌>>=◌, ◌>>◌}
 use Rattle.wp_syntax.specs.Grammar.{name_at, goal_of as goal_read, conjuncts_of, plain_goal_of}
+use Rattle.wp_syntax.specs.Items.{literal, literals_in}
 use Rattle.wp_syntax.specs.Effects.{fact_of}
 use Rattle.wp_syntax.specs.Typing.{typed_of, with_kinds}
 use Rattle.wp_syntax.specs.Problems.{entry_of, entries_of, complete_of, problem_from, problem_of}
@@ -94,14 +96,15 @@ abbrev pub AreItems : (List ℕ → Type 0) → List InitItem → Type 0
 AreItems known items = AllByRecursion (λ (item : InitItem). IsDepotAtom known item.atom) items
 
 abbrev AreFacts : (List ℕ → Type 0) → Forms → Type 0
-AreFacts known forms = (at : ℕ) → (items : List InitItem) × (each fact_of (trees_at forms at) ≡ fine items) × AreItems known items
+AreFacts known forms =
+    (at : ℕ) → (facts : List InitFact) × (each fact_of (trees_at forms at) ≡ fine facts) × AreItems known (literals_in facts)
 
 abbrev AreGoals : (List ℕ → Type 0) → Forms → Type 0
 AreGoals known forms =
     (at : ℕ) → (atoms : List AtomText) × (conjuncts_of plain_goal_of (trees_at forms at) ≡ fine atoms) × AllByRecursion (IsDepotAtom known) atoms
 
-abbrev fact : AtomText → InitItem
-fact atom = record { stated = true; atom = atom }
+abbrev fact : AtomText → InitFact
+fact atom = literal true atom
 
 abbrev atom_at : List ℕ → ℕ → List ℕ → List ℕ → AtomText
 atom_at pred at a b = record {
@@ -213,7 +216,7 @@ entry_then : (before after : Entries) (tree : Tree) (rest : Trees) → entry_of 
 entry_then before after tree rest e = ap (λ (read : Read Entries). read >>= λ new. entries_of new rest) e
 
 -- the items behind the domain's name, at any places
-entries : (a b c d e f g h : ℕ) (o i l : Trees) (objects : List Typed) (init : List InitItem) (goal : List AtomText)
+entries : (a b c d e f g h : ℕ) (o i l : Trees) (objects : List Typed) (init : List InitFact) (goal : List AtomText)
     → typed_of roles.Names [] [] o ≡ fine objects → each fact_of i ≡ fine init → conjuncts_of plain_goal_of l ≡ fine goal
     → entries_of titled
     (Then (Branch a (Then (Leaf (codes ":objects") b) o))
@@ -228,7 +231,7 @@ entries a b c d e f g h o i l objects init goal reads_o reads_i reads_l =
     ∙ entry_then (record titled { objects = Some objects }) (record titled { objects = Some objects; init = Some init })
     (Branch c (Then (Leaf (codes ":init") d) i))
     (Then (Branch e (Then (Leaf (codes ":goal") f) (Then (Branch g (Then (Leaf (codes "and") h) l)) End))) End)
-    (ap (λ (read : Read (List InitItem)). read >>= λ init. fine (record titled { objects = Some objects; init = Some init })) reads_i)
+    (ap (λ (read : Read (List InitFact)). read >>= λ init. fine (record titled { objects = Some objects; init = Some init })) reads_i)
     ∙ entry_then (record titled { objects = Some objects; init = Some init })
     (record titled { objects = Some objects; init = Some init; goal = Some goal })
     (Branch e (Then (Leaf (codes ":goal") f) (Then (Branch g (Then (Leaf (codes "and") h) l)) End))) End
@@ -269,7 +272,7 @@ problem_is_read known number size some names starts ends has =
     let g = e + 1 + 5 + 1 in
     let second = init known size (start_of number size) some names starts (c + 1 + 5) in
     let third = goals known size (goal_of number size) names ends (g + 1 + 3) in (
-      record { name = name_at (codes "depot") 17; objects = with_kinds [] has.names; init = second.0; goal = third.0 },
+      record { name = name_at (codes "depot") 17; objects = with_kinds [] has.names; init = literals_in second.0; goal = third.0 },
       ap (problem_by (name_at (codes "depot") 17))
           (entries 40 41 c (c + 1) e (e + 1) g (g + 1) (trees_at o 49) (trees_at i (c + 1 + 5)) (trees_at l (g + 1 + 3))
           (with_kinds [] has.names) second.0 third.0 has.read second.1 third.1),

@@ -6,6 +6,7 @@ ghost use Rattle.wp_lift.specs.declared.atoms.GroundAtom.{GroundAtom};
 ghost use Rattle.wp_ground.specs.Numbering.{atom_cmp};
 
 use crate::flat::FlatAtoms;
+use crate::lists::{are_same, order_of};
 use std::alloc::{AllocError, Global};
 use std::cmp::Ordering;
 use std::marker::Model;
@@ -55,7 +56,7 @@ impl<'a> PartialEq for Form<'a> {
     ghost laws = { partial_equiv_from_equiv forms_equiv };
 
     fn eq(&self, other: &Form<'a>) -> bool {
-        self.pred == other.pred && self.args == other.args
+        self.pred == other.pred && are_same(self.args, other.args)
     }
 }
 
@@ -94,7 +95,7 @@ impl<'a> Ord for Form<'a> {
 
     fn cmp(&self, other: &Form<'a>) -> Ordering {
         match self.pred.cmp(&other.pred) {
-            Ordering::Equal => self.args.cmp(other.args),
+            Ordering::Equal => order_of(self.args, other.args),
             order => order,
         }
     }

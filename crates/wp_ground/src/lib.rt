@@ -15,6 +15,7 @@ mod forms;
 mod grounding;
 mod joins;
 mod laws;
+mod lists;
 mod meeting;
 mod numbering;
 mod picking;

@@ -8,7 +8,6 @@ use Rattle.std.proofs.lemmas.Bool.Decides.{Decides-eqb}
 use Rattle.std.proofs.Math.ListN.{length-set}
 use Rattle.wp_syntax.specs.declared.error.Part.{Part}
 use Rattle.wp_syntax.specs.declared.error.Part.TheVariants as parts
-use Rattle.wp_syntax.specs.declared.error.PddlKind.{PddlKind}
 use Rattle.wp_syntax.specs.declared.error.PddlKind.TheVariants.{TooMany, Arity}
 use Rattle.wp_syntax.specs.declared.records.Name.{Name}
 use Rattle.wp_syntax.specs.declared.records.Typed.{Typed}

@@ -14,3 +14,5 @@ pub mod RowLemmas
 pub mod OrderLemmas
 pub mod KindLemmas
 pub mod FitLemmas
+pub mod SearchLemmas
+pub mod WantedLemmas

@@ -4,11 +4,12 @@ use Rattle.wp_syntax.specs.declared.error.Part.TheVariants as parts
 use Rattle.wp_syntax.specs.declared.error.PddlError.{PddlError}
 use Rattle.wp_syntax.specs.declared.records.Domain.{Domain}
 use Rattle.wp_syntax.specs.declared.records.Problem.{Problem}
+use Rattle.wp_lift.specs.declared.fault.Fault.{Fault}
 use Rattle.wp_lift.specs.declared.lifting.TypedSchema.{TypedSchema}
 use Rattle.wp_lift.specs.declared.lifting.Scene.{Scene}
 use Rattle.wp_lift.specs.declared.lifting.Facts.{Facts}
 use Rattle.wp_lift.specs.Problem.{Lifting}
-use Rattle.wp_lift.specs.Walk.{Walk, Fault, told_by, Fails, fine, each, each_after, ◌>>=◌}
+use Rattle.wp_lift.specs.Walk.{Walk, told_by, Fails, fine, each, each_after, ◌>>=◌}
 use Rattle.wp_lift.specs.Typing.{types_of}
 use Rattle.wp_lift.specs.Lifting.{objects_of, schema_of, stated_after, ground_atom_of, pred_of, lifting_of}
 use Rattle.wp_lift.specs.Stages.{scene_of, facts_in, facts_of, assembled}

@@ -79,18 +79,18 @@ rounds_above zero pairs a flags above = above
 rounds_above (suc k) pairs a flags above = rounds_above k pairs a (grown pairs flags) (grown_above pairs a flags above)
 
 -- each round adds a flag or is the last
-count_true : List Bool → ℕ
+pub count_true : List Bool → ℕ
 count_true [] = 0
 count_true (true ∷ flags) = suc (count_true flags)
 count_true (false ∷ flags) = count_true flags
 
-count_le : (flags : List Bool) → count_true flags ≤ length flags
+pub count_le : (flags : List Bool) → count_true flags ≤ length flags
 unfolding count_true
 count_le [] = omega arith
 count_le (true ∷ flags) = let rest = count_le flags in omega arith
 count_le (false ∷ flags) = let rest = count_le flags in omega arith
 
-same_or_more : (xs ys : List Bool) → length xs ≡ length ys → ((k : ℕ) → get_or xs k false ≡ true → get_or ys k false ≡ true)
+pub same_or_more : (xs ys : List Bool) → length xs ≡ length ys → ((k : ℕ) → get_or xs k false ≡ true → get_or ys k false ≡ true)
     → (xs ≡ ys) ⊎ (count_true xs < count_true ys)
 unfolding count_true
 same_or_more [] [] e h = inl refl

@@ -1,5 +1,5 @@
 -- What notes, deletes and adds make of worlds.
-use Rattle.std.proofs.Common.{◌≡◌, ℕ, ◌&&◌, ◌||◌, not, Bool, true, false, cond, List, [], ◌∷◌, ◌++◌, map, filter, fold, Option, refl, sym, ◌∙◌, ap}
+use Rattle.std.proofs.Common.{◌≡◌, ℕ, ◌&&◌, ◌||◌, not, Bool, true, false, cond, List, [], ◌∷◌, map, filter, fold, Option, refl, ◌∙◌, ap}
 use Rattle.std.specs.List.{position, position_from}
 use Rattle.wp_lift.specs.declared.schemas.SlotCond.{SlotCond}
 use Rattle.wp_lift.specs.Problem.{Lifting, Instance, schema_at}

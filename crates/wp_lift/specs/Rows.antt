@@ -1,6 +1,6 @@
--- Rows of flags, packed into words of 64 bits, and how they are closed: each type in its turn, in any order, hands what is above it to
--- all that it is above (Warshall, A theorem on Boolean matrices, JACM 1962).
-use Rattle.std.specs.Prelude.{ℕ, ◌≡◌, ◌<◌, ◌==◌, ◌||◌, ◌/◌, ◌%◌, Bool, true, List, [], length, map, slice_index, slice_index_or, slice_set, Contains, if◌then◌else◌}
+-- Rows of flags, packed into words of 64 bits, and how they are closed: a search goes from each type in turn, in any order, and at a type
+-- whose own search is over it takes all that is above and goes no further.
+use Rattle.std.specs.Prelude.{ℕ, ◌≡◌, ◌↔◌, ◌<◌, ◌==◌, ◌&&◌, ◌||◌, ◌/◌, ◌%◌, not, Bool, true, false, List, [], length, map, slice_index, slice_index_or, slice_set, Contains, if◌then◌else◌}
 use Rattle.std.specs.List.{range_with_len}
 use Rattle.std.specs.Int.{bit_at}
 use Rattle.wp_lift.specs.Typing.{is_flagged}
@@ -17,12 +17,48 @@ abbrev pub either : List Bool → List Bool → List Bool
 either row other =
     if length row == length other then map (λ (b : ℕ). is_flagged row b || is_flagged other b) (range_with_len 0 (length row)) else row
 
--- a row that has a type with what is above that type
-abbrev pub by_way_of : ℕ → List Bool → List Bool → List Bool
-by_way_of middle above row = if is_flagged row middle then either row above else row
+-- a place that two rows have, and a third has not
+abbrev pub is_wanted : List Bool → List Bool → List Bool → ℕ → Bool
+is_wanted row within beyond p = is_flagged row p && (is_flagged within p && not (is_flagged beyond p))
 
-abbrev pub passed_on : List (List Bool) → ℕ → List (List Bool)
-passed_on rows middle = map (by_way_of middle (slice_index_or rows middle [])) rows
+-- the same of the bits of words
+abbrev pub is_wanted_bit : List ℕ → List ℕ → List ℕ → ℕ → Bool
+is_wanted_bit words within beyond p = bit_in words p && (bit_in within p && not (bit_in beyond p))
+
+-- the first such place
+abbrev pub IsFirstWanted : List ℕ → List ℕ → List ℕ → ℕ → Type 0
+IsFirstWanted words within beyond p =
+    (is_wanted_bit words within beyond p ≡ true) × ((q : ℕ) → q < p → is_wanted_bit words within beyond q ≡ false)
+
+-- as many rows as flags in each
+pub record IsSquare (n : ℕ) (rows : List (List Bool)) : Type 0 where
+  pub count : length rows ≡ n
+  pub width : (a : ℕ) → a < n → length (slice_index_or rows a []) ≡ n
+
+abbrev pub is_marked : List (List Bool) → ℕ → ℕ → Bool
+is_marked rows a b = is_flagged (slice_index_or rows a []) b
+
+-- a type leads to another by way of flags, from row to row
+pub data Leads (rows : List (List Bool)) : ℕ → ℕ → Type 0 where
+  once : (a b : ℕ) → is_marked rows a b ≡ true → Leads rows a b
+  by_way : (a b c : ℕ) → is_marked rows a b ≡ true → Leads rows b c → Leads rows a c
+
+-- the flags of all to which a type leads
+abbrev pub IsReached : List (List Bool) → ℕ → List Bool → Type 0
+IsReached rows a found = (c : ℕ) → (is_flagged found c ≡ true) ↔ Leads rows a c
+
+-- the rows of these types have all to which they lead
+abbrev pub AreClosed : List (List Bool) → List Bool → Type 0
+AreClosed rows closed = (b : ℕ) → is_flagged closed b ≡ true → IsReached rows b (slice_index_or rows b [])
+
+-- of each type the flags of all to which it led at the start
+pub record IsClosure (n : ℕ) (start rows : List (List Bool)) : Type 0 where
+  pub square : IsSquare n rows
+  pub reached : (a : ℕ) → a < n → IsReached start a (slice_index_or rows a [])
+
+-- what a search has seen, when it sees one more type: all of its row, where that type's own search is over
+abbrev pub seen_with : Bool → List Bool → ℕ → List Bool → List Bool
+seen_with is_closed seen b row = if is_closed then either (slice_set seen b true) row else slice_set seen b true
 
 -- all of so many types, and nothing else
 pub record IsOrder (count : ℕ) (order : List ℕ) : Type 0 where

@@ -6,7 +6,7 @@ use Rattle.wp_syntax.specs.declared.error.PddlError.{PddlError}
 use Rattle.wp_syntax.specs.declared.error.PddlError.TheVariants as errors
 use Rattle.wp_syntax.specs.Faults.{Checked, faulty, faulty_if, Tells, Returns}
 pub use Rattle.wp_syntax.specs.Faults.{fine, ◌>>=◌, ◌>>◌, each, each_after, behind, first}
-pub use Rattle.wp_lift.specs.declared.fault.Fault.{Fault}
+use Rattle.wp_lift.specs.declared.fault.Fault.{Fault}
 
 abbrev pub Walk : Type 0 → Type 0
 Walk A = Checked Fault A

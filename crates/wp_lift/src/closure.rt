@@ -1,10 +1,10 @@
 //! Subtypes: what the declared pairs lead to.
 
-ghost use Rattle.std.specs.Prelude.{◌≡◌, ◌<◌, map, fold, length, IfOk, OnOk};
+ghost use Rattle.std.specs.Prelude.{◌≡◌, ◌<◌, ℕ, true, false, map, fold, length, IfOk, IfSome, IfNone, OnOk};
 ghost use Rattle.std.specs.List.{range_with_len};
 ghost use Rattle.wp_syntax.specs.declared.records.Name.{Name};
-ghost use Rattle.wp_lift.specs.Typing.{type_number, pairs_of, flags_of, subtypes_of};
-ghost use Rattle.wp_lift.specs.Rows.{IsOrder, marked, by_way_of, passed_on};
+ghost use Rattle.wp_lift.specs.Typing.{is_flagged, type_number, pairs_of, flags_of, subtypes_of};
+ghost use Rattle.wp_lift.specs.Rows.{AreClosed, IsClosure, IsOrder, IsReached, IsSquare, either, marked, seen_with};
 
 use crate::fault::{narrow, push};
 use crate::flags::Flags;
@@ -70,44 +70,61 @@ fn mark_all(rows: &mut Vec<Flags>, types: &NameTable, declared: &[Typed])
     }
 }
 
-fn join_by_way(row: &mut Flags, middle: u32, above: &Flags)
-    ensures { row.new ≡ by_way_of middle above.now row.old }
+// A type that was found and not seen: one whose own search is over before any other.
+fn next(found: &Flags, seen: &Flags, closed: &Flags) -> Option<u32>
+    requires seen { length seen.now ≡ length found.now }
+    ensures none { IfNone result ((b : ℕ) → is_flagged found.now b ≡ true → is_flagged seen.now b ≡ true) }
+    ensures some { IfSome result (λ b. (is_flagged found.now b ≡ true) × (is_flagged seen.now b ≡ false)) }
 {
-    if row.at(middle) {
-        row.join(above);
+    match found.first_in(closed, seen) {
+        Some(b) => Some(b),
+        None => found.first_in(found, seen),
     }
 }
 
-fn join_rows(rows: &mut [Flags], middle: u32, above: &Flags)
-    ensures { rows.new ≡ map (by_way_of middle above.now) rows.old }
+// What is above a type is found, where the type is seen.
+fn see(row: &Flags, is_closed: bool, b: u32, found: &mut Flags, seen: &mut Flags)
+    ensures found { found.new ≡ either found.old row.now }
+    ensures seen { seen.new ≡ seen_with is_closed seen.old b row.now }
 {
-    for row in rows.iter_mut() {
-        join_by_way(row, middle, above);
+    found.join(row);
+    seen.set(b);
+    if is_closed {
+        seen.join(row);
     }
 }
 
-// What is above a type goes to all rows that have it.
-fn pass_on(alloc: Global, rows: &mut Vec<Flags>, middle: u32) -> Result<(), AllocError>
-    requires { middle < length rows.old.items }
-    ensures { OnOk result (rows.new.items ≡ passed_on rows.old.items middle) }
+// All to which the rows lead from a type.
+fn search_from(alloc: Global, rows: &[Flags], closed: &Flags, a: u32) -> Result<Flags, AllocError>
+    requires square { IsSquare (length rows.now) rows.now }
+    requires closed { AreClosed rows.now closed.now }
+    requires below { a < length rows.now }
+    ensures width { IfOk result (λ found. length found ≡ length rows.now) }
+    ensures reached { IfOk result (λ found. IsReached rows.now a found) }
 {
-    let above = rows[middle as usize].copy(alloc)?;
-    join_rows(rows.as_mut_slice(), middle, &above);
+    let mut found = rows[a as usize].copy(alloc)?;
+    let mut seen = Flags::none(alloc, found.len())?;
+    while let Some(b) = next(&found, &seen, closed) {
+        see(&rows[b as usize], closed.at(b), b, &mut found, &mut seen);
+    }
+    Ok(found)
+}
+
+fn close(alloc: Global, rows: &mut Vec<Flags>, count: u32, order: &[u32]) -> Result<(), AllocError>
+    requires square { IsSquare count rows.old.items }
+    requires order { IsOrder count order.now }
+    ensures { OnOk result (IsClosure count rows.old.items rows.new.items) }
+{
+    let mut closed = Flags::none(alloc, count)?;
+    for a in order {
+        rows[*a as usize] = search_from(alloc, rows.as_slice(), &closed, *a)?;
+        closed.set(*a);
+    }
     Ok(())
 }
 
-fn close(alloc: Global, rows: &mut Vec<Flags>, order: &[u32]) -> Result<(), AllocError>
-    requires { IsOrder (length rows.old.items) order.now }
-    ensures { OnOk result (rows.new.items ≡ fold passed_on rows.old.items order.now) }
-{
-    for middle in order {
-        pass_on(alloc, rows, *middle)?;
-    }
-    Ok(())
-}
-
-/// Of each type, for each type whether it is above. A row of bits is joined to another once for each declared pair, where no two
-/// types are above one another, and never more often than there are pairs of types.
+/// Of each type, for each type whether it is above. Where no two types are above one another, a row of bits is joined to another once
+/// for each declared pair at most, and never more often than there are pairs of types.
 #[tactic(auto, unfolding(crate::specs::Typing::subtypes_of))]
 pub fn subtypes_of(alloc: Global, types: &NameTable, declared: &[Typed]) -> Result<Rows, AllocError>
     ensures { IfOk result (λ rows. rows ≡ subtypes_of types.now declared.now) }
@@ -116,6 +133,6 @@ pub fn subtypes_of(alloc: Global, types: &NameTable, declared: &[Typed]) -> Resu
     let mut rows = all_flags(alloc, count)?;
     mark_all(&mut rows, types, declared);
     let order = order_of(alloc, rows.as_slice(), count)?;
-    close(alloc, &mut rows, order.as_slice())?;
+    close(alloc, &mut rows, count, order.as_slice())?;
     Ok(Rows::of_vec(rows))
 }

@@ -1,7 +1,8 @@
 //! Rows of flags, packed into words of 64 bits.
 
-ghost use Rattle.std.specs.Prelude.{◌≡◌, ℕ, ◌*◌, ◌<◌, ◌==◌, ◌||◌, true, false, bit_or, length, replicate, slice_index, slice_index_or, slice_set, IfOk};
-ghost use Rattle.wp_lift.specs.Rows.{bit_in, either};
+ghost use Rattle.std.specs.Prelude.{◌≡◌, ℕ, ◌+◌, ◌*◌, ◌^◌, ◌<◌, ◌≤◌, ◌==◌, ◌||◌, true, false, bit_or, length, replicate, slice_index, slice_index_or, slice_set, IfOk, IfSome, IfNone};
+ghost use Rattle.std.specs.Int.{bit_at};
+ghost use Rattle.wp_lift.specs.Rows.{bit_in, either, is_wanted, is_wanted_bit, IsFirstWanted};
 
 use std::alloc::{AllocError, Global};
 use std::marker::Model;
@@ -10,7 +11,7 @@ use std::marker::Model;
 #[derive(Drop)]
 pub struct Flags {
     words: Vec<u64>,
-    count: usize,
+    count: u32,
 }
 
 impl Model for Flags {
@@ -29,16 +30,22 @@ impl Flags {
     pub fn none(alloc: Global, count: u32) -> Result<Flags, AllocError>
         ensures { IfOk result (λ flags. flags ≡ replicate count false) }
     {
-        let count = count as usize;
-        let words = vec![in alloc; 0u64; (count + 63) / 64]?;
+        let words = vec![in alloc; 0u64; (count as usize + 63) / 64]?;
         Ok(Flags { words, count })
+    }
+
+    /// So many flags.
+    pub fn len(&self) -> u32
+        ensures { result ≡ length self.now }
+    {
+        self.count
     }
 
     /// The flag at a place; false past the end.
     pub fn at(&self, place: u32) -> bool
         ensures { result ≡ slice_index_or self.now place false }
     {
-        if place as usize >= self.count {
+        if place >= self.count {
             return false;
         }
         is_set(self.words.as_slice(), place)
@@ -48,7 +55,7 @@ impl Flags {
     pub fn set(&mut self, place: u32)
         ensures { self.new ≡ slice_set self.old place true }
     {
-        if (place as usize) < self.count {
+        if place < self.count {
             set_bit(&mut self.words, place);
         }
     }
@@ -62,19 +69,23 @@ impl Flags {
         }
     }
 
-    /// A place whose flag is set here and not in the other row, of the first word that has one.
-    pub fn first_beyond(&self, other: &Flags) -> Option<u32> {
-        let words = self.words.as_slice();
-        for place in 0..words.len() {
-            let more = words[place] & !word_at(other.words.as_slice(), place);
-            if more != 0 {
-                let Ok(word) = u32::try_from(place) else {
-                    return None;
-                };
-                return word.checked_mul(64)?.checked_add(more.trailing_zeros());
-            }
+    /// A place whose flag is set here and in a second row, and not in a third; of rows of one length the first such place.
+    pub fn first_in(&self, within: &Flags, beyond: &Flags) -> Option<u32>
+        ensures none { length within.now ≡ length self.now → length beyond.now ≡ length self.now
+            → IfNone result ((p : ℕ) → is_wanted self.now within.now beyond.now p ≡ false) }
+        ensures some { IfSome result (λ p. is_wanted self.now within.now beyond.now p ≡ true) }
+    {
+        if within.count != self.count {
+            return None;
         }
-        None
+        if beyond.count != self.count {
+            return None;
+        }
+        let words = self.words.as_slice();
+        match first_wanted(words, within.words.as_slice(), beyond.words.as_slice()) {
+            Some(p) if p < self.count => Some(p),
+            _ => None,
+        }
     }
 
     /// An equal row in memory of its own.
@@ -99,6 +110,28 @@ fn is_set(words: &[u64], place: u32) -> bool
     ensures { result ≡ bit_in words.now place }
 {
     (word_at(words, (place / 64) as usize) >> (place % 64)) & 1 == 1
+}
+
+// The bits of a word that are set in the first two rows and not in the third.
+fn wanted_word(words: &[u64], within: &[u64], beyond: &[u64], place: u32) -> u64
+    ensures { (i : ℕ) → i < 64 → (bit_at result i == 1) ≡ is_wanted_bit words.now within.now beyond.now (64 * place + i) }
+{
+    let place = place as usize;
+    word_at(words, place) & word_at(within, place) & !word_at(beyond, place)
+}
+
+fn first_wanted(words: &[u64], within: &[u64], beyond: &[u64]) -> Option<u32>
+    requires { length words.now ≤ 2 ^ 26 }
+    ensures none { IfNone result ((p : ℕ) → is_wanted_bit words.now within.now beyond.now p ≡ false) }
+    ensures some { IfSome result (λ p. IsFirstWanted words.now within.now beyond.now p) }
+{
+    for place in 0..words.len() as u32 {
+        let wanted = wanted_word(words, within, beyond, place);
+        if wanted != 0 {
+            return Some(64 * place + wanted.trailing_zeros());
+        }
+    }
+    None
 }
 
 fn set_bit(words: &mut Vec<u64>, place: u32)

@@ -5,7 +5,8 @@
 //! `lift` turns the records of `wp_syntax` into it, or answers the first fault of the walk of `specs/Lifting.antt`.
 //!
 //! Names are numbered in the order in which they are first seen, by hashing; subtypes are the closure of the declared
-//! pairs, one row of bits for each type, and types hand on what is above them in the order of a depth-first walk. `wp_check` and `wp_ground` stand on it; it knows no plan and no search.
+//! pairs, one row of bits for each type, closed by a search from each in the order of a depth-first walk. `wp_check` and
+//! `wp_ground` stand on it; it knows no plan and no search.
 #![tactic(auto)]
 
 mod atoms;

@@ -1,4 +1,4 @@
-//! An order in which types hand on what is above them.
+//! An order of types in which a search from one mostly meets types whose search is over.
 //!
 //! A depth-first walk lists a type when all types above it are listed (Tarjan, Depth-first search and linear graph algorithms, SIAM
 //! J. Comput. 1972). By that order a row is joined to another once for each declared pair, where no two types are above one another.
@@ -38,7 +38,7 @@ fn step(rows: &[Flags], walk: &mut Walk) -> Result<(), AllocError> {
 
 fn above_beyond(rows: &[Flags], a: u32, entered: &Flags) -> Option<u32> {
     match rows.get(a as usize) {
-        Some(row) => row.first_beyond(entered),
+        Some(row) => row.first_in(row, entered),
         None => None,
     }
 }

@@ -5,7 +5,7 @@ use Rattle.std.specs.List.{All}
 use Rattle.std.proofs.lemmas.Grind.{flat_map-append}
 use Rattle.std.proofs.lemmas.List.{get_or_append_left, get_or-append-add, map_push, length-map}
 use Rattle.std.proofs.lemmas.List.Elements.{All-push, All-weaker}
-use Rattle.wp_task.specs.Novelty.{Generated}
+use Rattle.wp_novel.specs.Births.{BirthView}
 use Rattle.wp_arrive.specs.Seen.{PassView}
 use Rattle.wp_novel.specs.declared.birth.Pair.{Pair}
 use Rattle.wp_novel.specs.declared.job.JobPass.{JobPass}
@@ -39,20 +39,20 @@ pub births_of-push : (jobs : List JobView) (j : JobView) → births_of (jobs ++ 
 births_of-push jobs j = flat_map-append (λ (x : JobView). x.births) jobs (j ∷ []) ∙ ap (λ l. births_of jobs ++ l) (append-nil j.births)
 
 -- ---- dealt
-abbrev pub births_in_share : Share → List Generated
+abbrev pub births_in_share : Share → List BirthView
 births_in_share share = share.births.items
 
 -- there are as many jobs as shares
 pub as_many : (old new : Homes) (done : List Share) (jobs : List JobView) → AreGiven old new (map births_in_share done) jobs → length jobs ≡ length done
 as_many old new done jobs given =
-    sym (length-map jobs (λ (j : JobView). j.births)) ∙ (ap (λ (l : List (List Generated)). length l) given.births ∙ length-map done births_in_share)
+    sym (length-map jobs (λ (j : JobView). j.births)) ∙ (ap (λ (l : List (List BirthView)). length l) given.births ∙ length-map done births_in_share)
 
 -- a share more can be given
 pub can_lend : (old now : Homes) (done rest all items : List Share) (share : Share) (jobs : List JobView) → done ++ items ≡ all → items ≡ share ∷ rest →
     AreGiven old now (map births_in_share done) jobs → CanLend (length all) old (births_in all) → CanLend 1 now share.births.items
 can_lend old now done rest all items share jobs is next given can = record {
-  opens = All-weaker (λ (b : Generated). is_among (pairs_of old) b.counters ≡ true) (λ (b : Generated). is_among (pairs_of now) b.counters ≡ true)
-      (λ b h. ap (λ ps. is_among ps b.counters) (same_pairs (Lends (passes_of jobs)) old now given.homes) ∙ h) share.births.items mine;
+  opens = All-weaker (λ (b : BirthView). is_among (pairs_of old) b.node.counters ≡ true) (λ (b : BirthView). is_among (pairs_of now) b.node.counters ≡ true)
+      (λ b h. ap (λ ps. is_among ps b.node.counters) (same_pairs (Lends (passes_of jobs)) old now given.homes) ∙ h) share.births.items mine;
   parts = λ pair home e.
       let before : Was (Lends (passes_of jobs)) old pair home = was (Lends (passes_of jobs)) old now given.homes pair home e in
       let many : length all < before.0.parts = can.parts pair before.0 before.1 in
@@ -68,10 +68,10 @@ can_lend old now done rest all items share jobs is next given can = record {
     whole : births_in done ++ (share.births.items ++ births_in rest) ≡ births_in all
     whole = ap (λ (l : List Share). births_in done ++ births_in l) (sym next) ∙ (sym (flat_map-append births_in_share done items) ∙ ap births_in is)
 
-    mine : All (λ (b : Generated). is_among (pairs_of old) b.counters ≡ true) share.births.items
-    mine = All-left (λ (b : Generated). is_among (pairs_of old) b.counters ≡ true) share.births.items (births_in rest)
-        (All-right (λ (b : Generated). is_among (pairs_of old) b.counters ≡ true) (births_in done) (share.births.items ++ births_in rest)
-        (subst (All (λ (b : Generated). is_among (pairs_of old) b.counters ≡ true)) (sym whole) can.opens))
+    mine : All (λ (b : BirthView). is_among (pairs_of old) b.node.counters ≡ true) share.births.items
+    mine = All-left (λ (b : BirthView). is_among (pairs_of old) b.node.counters ≡ true) share.births.items (births_in rest)
+        (All-right (λ (b : BirthView). is_among (pairs_of old) b.node.counters ≡ true) (births_in done) (share.births.items ++ births_in rest)
+        (subst (All (λ (b : BirthView). is_among (pairs_of old) b.node.counters ≡ true)) (sym whole) can.opens))
 
 -- and is given
 pub one_given : (old now later : Homes) (done : List Share) (share : Share) (jobs : List JobView) (j : JobView) → AreGiven old now (map births_in_share done) jobs →

@@ -1,33 +1,27 @@
 -- What marks leave at the places of tuples.
-use Rattle.std.proofs.Common.{◌≡◌, ◌==◌, ◌&&◌, ◌||◌, ℕ, ◌+◌, ◌-◌, ◌^◌, ◌≤◌, min, cond, Bool, true, false, List, [], ◌∷◌, length, refl, sym, ap, ◌∙◌, ⊎_elim, arith}
-use Rattle.std.specs.List.{Contains, list_all, list_any, All}
-use Rattle.std.proofs.lemmas.Bool.{cases_Bool, eq-eqb, eqb-true, both_ways, false_from_ne_true}
+use Rattle.std.proofs.Common.{◌≡◌, ◌==◌, ◌&&◌, ◌||◌, ℕ, ◌-◌, ◌^◌, ◌≤◌, min, cond, Bool, true, false, List, [], ◌∷◌, length, refl, sym, ap, ◌∙◌, ⊎_elim, arith}
+use Rattle.std.specs.List.{list_all, list_any, All}
+use Rattle.std.proofs.lemmas.Bool.{cases_Bool, eq-eqb, eqb-true, both_ways, false_from_ne_true, and_parts, and_from}
 use Rattle.std.proofs.lemmas.List.Elements.{All-head, All-tail}
 use Rattle.wp_task.specs.Set.{has}
-use Rattle.wp_task.specs.Novelty.{Generated}
-use Rattle.wp_task.proofs.Members.{In-from_Contains, Contains-from_In, list_any-from, list_any-at}
-use Rattle.wp_tuples.specs.TuplePlaces.{Indexed, place_of, tuples_of}
-use Rattle.wp_tuples.proofs.PlaceLemmas.{are_numbered}
-use Rattle.wp_tuples.proofs.Triangles.{triangle}
+use Rattle.wp_task.proofs.Members.{list_any-from, list_any-at}
+use Rattle.wp_tuples.specs.Placing.{Placing, HasPlace, place_in, AreApart}
 use Rattle.wp_arrive.specs.FirstArrival.{first}
 use Rattle.wp_arrive.proofs.Firsts.{first_le, first_append}
+use Rattle.wp_novel.specs.Births.{BirthView, is_new, nodes_of}
+use Rattle.wp_novel.specs.MarkedTuples.{marked_tuples, AreCounted}
 use Rattle.wp_novel.specs.NoveltyTables.{is_same}
 use Rattle.wp_novel.specs.StandsFor.{first_number}
 use Rattle.wp_novel.specs.Marks.{marks_at, birth_marks, marks_for}
-use Rattle.wp_novel.specs.TrueTuples.{true_tuples}
-use Rattle.wp_novel.proofs.TrueTupleLemmas.{true_tuples_listed}
-
--- the places of the pairs of q
-abbrev pub row : ℕ → ℕ → ℕ
-row atoms q = atoms + triangle q
+use Rattle.wp_novel.proofs.MarkedTupleLemmas.{listed_are, to_listed}
 
 -- the first arrival at a place of a number that is marked at some tuples
-first-marks_at : (atoms number : ℕ) (tuples : List (List ℕ)) (t : ℕ) → number ≤ 2 ^ 64 - 1 →
-    first (marks_at atoms number tuples) t ≡ cond (list_any (λ u. place_of atoms u == t) tuples) number (2 ^ 64 - 1)
-first-marks_at atoms number [] t low = refl
-first-marks_at atoms number (u ∷ tuples) t low =
-    ap (λ n. cond (place_of atoms u == t) (min number n) n) (first-marks_at atoms number tuples t low)
-    ∙ out (place_of atoms u == t) (list_any (λ v. place_of atoms v == t) tuples)
+first-marks_at : (places : Placing) (number : ℕ) (tuples : List (List ℕ)) (t : ℕ) → number ≤ 2 ^ 64 - 1 →
+    first (marks_at places number tuples) t ≡ cond (list_any (λ u. place_in places u == t) tuples) number (2 ^ 64 - 1)
+first-marks_at places number [] t low = refl
+first-marks_at places number (u ∷ tuples) t low =
+    ap (λ n. cond (place_in places u == t) (min number n) n) (first-marks_at places number tuples t low)
+    ∙ out (place_in places u == t) (list_any (λ v. place_in places v == t) tuples)
   where
     out : (b c : Bool) → cond b (min number (cond c number (2 ^ 64 - 1))) (cond c number (2 ^ 64 - 1)) ≡ cond (b || c) number (2 ^ 64 - 1)
     out true true = omega arith
@@ -35,51 +29,66 @@ first-marks_at atoms number (u ∷ tuples) t low =
     out false true = refl
     out false false = refl
 
-module _ (index : Indexed) (state : List Bool) (low : 1 ≤ index.width) (high : index.width ≤ 2) (size : length state ≡ index.atoms) where
-  same_test : (tuple : List ℕ) → Contains (tuples_of index) tuple →
-      list_any (λ u. place_of index.atoms u == place_of index.atoms tuple) (true_tuples index.width state) ≡ list_all (has state) tuple
-  same_test tuple h = ⊎_elim
-      (λ (passes : list_all (has state) tuple ≡ true).
-      list_any-from (λ u. place_of index.atoms u == place_of index.atoms tuple) (true_tuples index.width state) tuple
-      (In-from_Contains tuple (true_tuples index.width state) ((true_tuples_listed index state tuple low high size).1 (h, passes)))
-      (eq-eqb (place_of index.atoms tuple) (place_of index.atoms tuple) refl)
+module _ (places : Placing) (apart : AreApart places) where
+  -- whether a birth is marked at a tuple
+  abbrev is_marked : BirthView → List ℕ → Bool
+  is_marked b tuple = list_all (has b.node.state) tuple && list_any (is_new b.fresh) tuple
+
+  same_test : (b : BirthView) (tuple : List ℕ) → length b.node.state ≡ places.atoms → AreCounted places b.node.state → HasPlace places tuple →
+      list_any (λ u. place_in places u == place_in places tuple) (marked_tuples places.width b) ≡ is_marked b tuple
+  same_test b tuple size counted place = ⊎_elim
+      (λ (passes : is_marked b tuple ≡ true).
+      let parts = and_parts (list_all (has b.node.state) tuple) (list_any (is_new b.fresh) tuple) passes in
+      list_any-from (λ u. place_in places u == place_in places tuple) (marked_tuples places.width b) tuple
+      (to_listed b places size counted tuple (place, parts.0, parts.1)) (eq-eqb (place_in places tuple) (place_in places tuple) refl)
       ∙ sym passes)
-      (λ (fails : list_all (has state) tuple ≡ false).
-      false_from_ne_true (list_any (λ u. place_of index.atoms u == place_of index.atoms tuple) (true_tuples index.width state)) (λ some.
-      let found = list_any-at (λ u. place_of index.atoms u == place_of index.atoms tuple) (true_tuples index.width state) some in
-      let listed = (true_tuples_listed index state found.0 low high size).0 (Contains-from_In found.0 (true_tuples index.width state) found.1) in
-      let same : found.0 ≡ tuple =
-      (are_numbered index.atoms index.width low high).apart found.0 tuple listed.0 h (eqb-true (place_of index.atoms found.0) (place_of index.atoms tuple) found.2) in
-      both_ways (list_all (has state) tuple) fails (ap (list_all (has state)) (sym same) ∙ listed.1))
+      (λ (fails : is_marked b tuple ≡ false).
+      false_from_ne_true (list_any (λ u. place_in places u == place_in places tuple) (marked_tuples places.width b)) (λ some.
+      let found = list_any-at (λ u. place_in places u == place_in places tuple) (marked_tuples places.width b) some in
+      let listed = listed_are b places size counted found.0 found.1 in
+      let same : found.0 ≡ tuple = apart.apart found.0 tuple listed.0 place (eqb-true (place_in places found.0) (place_in places tuple) found.2) in
+      both_ways (is_marked b tuple) fails (ap (is_marked b) (sym same) ∙ and_from (list_all (has b.node.state) found.0) (list_any (is_new b.fresh) found.0) listed.1 listed.2))
       ∙ sym fails)
-      (cases_Bool (list_all (has state) tuple))
+      (cases_Bool (is_marked b tuple))
 
   -- the first arrival of a birth's marks at the place of a tuple
-  first_of_state : (number : ℕ) (tuple : List ℕ) → number ≤ 2 ^ 64 - 1 → Contains (tuples_of index) tuple →
-      first (marks_at index.atoms number (true_tuples index.width state)) (place_of index.atoms tuple) ≡ cond (list_all (has state) tuple) number (2 ^ 64 - 1)
-  first_of_state number tuple low h =
-      first-marks_at index.atoms number (true_tuples index.width state) (place_of index.atoms tuple) low
-      ∙ ap (λ b. cond b number (2 ^ 64 - 1)) (same_test tuple h)
+  first_of_birth : (b : BirthView) (tuple : List ℕ) → length b.node.state ≡ places.atoms → AreCounted places b.node.state → HasPlace places tuple →
+      b.node.number ≤ 2 ^ 64 - 1 → first (marks_at places b.node.number (marked_tuples places.width b)) (place_in places tuple) ≡ cond (is_marked b tuple) b.node.number (2 ^ 64 - 1)
+  first_of_birth b tuple size counted place low =
+      first-marks_at places b.node.number (marked_tuples places.width b) (place_in places tuple) low
+      ∙ ap (λ c. cond c b.node.number (2 ^ 64 - 1)) (same_test b tuple size counted place)
 
--- the first arrival of the marks of births is the number of the first birth that has the tuple
-pub first_of_births : (index : Indexed) (births : List Generated) (counters : ℕ × ℕ) (tuple : List ℕ) → 1 ≤ index.width → index.width ≤ 2 →
-    All (λ b. length b.state ≡ index.atoms) births → All (λ b. b.number ≤ 2 ^ 64 - 1) births → Contains (tuples_of index) tuple →
-    first (marks_for index counters births) (place_of index.atoms tuple) ≡ first_number births counters tuple
-first_of_births index [] counters tuple low high sizes numbers h = refl
-first_of_births index (b ∷ births) counters tuple low high sizes numbers h =
-    first_append (birth_marks index counters b) (marks_for index counters births) (place_of index.atoms tuple)
-    ∙ by (is_same b.counters counters) (list_all (has b.state) tuple)
-    (first_of_state index b.state low high (All-head (λ (x : Generated). length x.state ≡ index.atoms) b births sizes) b.number tuple
-    (All-head (λ (x : Generated). x.number ≤ 2 ^ 64 - 1) b births numbers) h)
-    (first_of_births index births counters tuple low high (All-tail (λ (x : Generated). length x.state ≡ index.atoms) b births sizes)
-    (All-tail (λ (x : Generated). x.number ≤ 2 ^ 64 - 1) b births numbers) h)
-    (first_le (marks_for index counters births) (place_of index.atoms tuple))
-  where
-    by : (s a : Bool) → first (marks_at index.atoms b.number (true_tuples index.width b.state)) (place_of index.atoms tuple) ≡ cond a b.number (2 ^ 64 - 1) →
-        first (marks_for index counters births) (place_of index.atoms tuple) ≡ first_number births counters tuple →
-        first (marks_for index counters births) (place_of index.atoms tuple) ≤ 2 ^ 64 - 1 →
-        min (first (cond s (marks_at index.atoms b.number (true_tuples index.width b.state)) []) (place_of index.atoms tuple)) (first (marks_for index counters births) (place_of index.atoms tuple))
-        ≡ cond (s && a) (min b.number (first_number births counters tuple)) (first_number births counters tuple)
-    by true true mine rest most = omega (arith, mine, rest, most)
-    by true false mine rest most = omega (arith, mine, rest, most)
-    by false a mine rest most = omega (arith, rest, most)
+  -- where the birth has the tuple, and no new atom of it, a number up to its own was there before
+  abbrev pub IsNoEarlier : ℕ × ℕ → List ℕ → ℕ → BirthView → Type 0
+  IsNoEarlier counters tuple m b =
+      is_same b.node.counters counters ≡ true → list_all (has b.node.state) tuple ≡ true → list_any (is_new b.fresh) tuple ≡ false → m ≤ b.node.number
+
+  pub record CanCount (b : BirthView) : Type 0 where
+    pub size : length b.node.state ≡ places.atoms
+    pub counted : AreCounted places b.node.state
+    pub low : b.node.number ≤ 2 ^ 64 - 1
+
+  -- with the first arrival before, that of the marks of births is the number of the first birth that has the tuple
+  pub first_of_births : (births : List BirthView) (counters : ℕ × ℕ) (tuple : List ℕ) (m : ℕ) → HasPlace places tuple → All CanCount births →
+      All (IsNoEarlier counters tuple m) births →
+      min m (first (marks_for places counters births) (place_in places tuple)) ≡ min m (first_number (nodes_of births) counters tuple)
+  first_of_births [] counters tuple m place can later = refl
+  first_of_births (b ∷ births) counters tuple m place can later =
+      let first_can = All-head CanCount b births can in
+      ap (λ n. min m n) (first_append (birth_marks places counters b) (marks_for places counters births) (place_in places tuple))
+      ∙ by (is_same b.node.counters counters) (list_all (has b.node.state) tuple) (list_any (is_new b.fresh) tuple)
+      (first_of_birth b tuple first_can.size first_can.counted place first_can.low)
+      (All-head (IsNoEarlier counters tuple m) b births later)
+      (first_of_births births counters tuple m place (All-tail CanCount b births can) (All-tail (IsNoEarlier counters tuple m) b births later))
+      (first_le (marks_for places counters births) (place_in places tuple))
+    where
+      by : (s a n : Bool) → first (marks_at places b.node.number (marked_tuples places.width b)) (place_in places tuple) ≡ cond (a && n) b.node.number (2 ^ 64 - 1) →
+          (s ≡ true → a ≡ true → n ≡ false → m ≤ b.node.number) →
+          min m (first (marks_for places counters births) (place_in places tuple)) ≡ min m (first_number (nodes_of births) counters tuple) →
+          first (marks_for places counters births) (place_in places tuple) ≤ 2 ^ 64 - 1 →
+          min m (min (first (cond s (marks_at places b.node.number (marked_tuples places.width b)) []) (place_in places tuple)) (first (marks_for places counters births) (place_in places tuple)))
+          ≡ min m (cond (s && a) (min b.node.number (first_number (nodes_of births) counters tuple)) (first_number (nodes_of births) counters tuple))
+      by true true true mine early rest most = omega (arith, mine, rest, most)
+      by true true false mine early rest most = let m_low : m ≤ b.node.number = early refl refl refl in omega (arith, mine, rest, most)
+      by true false n mine early rest most = omega (arith, mine, rest, most)
+      by false a n mine early rest most = omega (arith, rest, most)

@@ -6,17 +6,17 @@ use Rattle.std.proofs.lemmas.List.Elements.{All-nil, All-cons, All-head, All-tai
 use Rattle.wp_task.specs.Set.{has, IsIn}
 use Rattle.wp_task.specs.Novelty.{Generated, IsNewAt, HasNovelty, novelty_of}
 use Rattle.wp_task.proofs.NoveltyLemmas.{novelty_is_computed}
-use Rattle.wp_tuples.specs.TuplePlaces.{place_of, tuples_of}
+use Rattle.wp_tuples.specs.Placing.{HasPlace, place_in}
 use Rattle.wp_arrive.specs.FirstArrival.{first}
 use Rattle.wp_arrive.specs.Seen.{PassView}
 use Rattle.wp_novel.specs.declared.birth.Pair.{Pair}
 use Rattle.wp_novel.specs.NoveltyTables.{NoveltyTables, AreFilled, counters_of, is_same, home_of}
 use Rattle.wp_novel.specs.StandsFor.{has_tuple, first_number, StandsFor}
+use Rattle.wp_novel.specs.MarkedTuples.{AreCounted}
 use Rattle.wp_novel.specs.Marks.{IsLeastSize}
 use Rattle.wp_novel.proofs.AtomLemmas.{has_below}
 use Rattle.wp_novel.proofs.FirstLemmas.{first_number_is_first}
 use Rattle.wp_novel.proofs.PairLemmas.{same_counters, is_same_itself}
-use Rattle.wp_novel.proofs.TupleLemmas.{atom_is_tuple, pair_is_tuple}
 
 -- ---- tuples that are in a state
 all_in : (state : List Bool) (tuple : List ℕ) → All (IsIn state) tuple → list_all (has state) tuple ≡ true
@@ -78,26 +78,26 @@ new_once nodes x p at = record {
 
 -- ---- the rule
 pub has_novelty : (t : NoveltyTables) (pair : Pair) (births : List Generated) (x : Generated) (home : PassView) (w : ℕ) → AreFilled t → StandsFor t births →
-    counters_of pair ≡ x.counters → home_of t.homes pair ≡ Some home → length x.state ≡ t.index.atoms → x.number < 2 ^ 64 → IsLeastSize t.index x.state x.number home.marks w →
+    counters_of pair ≡ x.counters → home_of t.homes pair ≡ Some home → length x.state ≡ t.index.atoms → AreCounted t.index x.state → x.number < 2 ^ 64 → IsLeastSize t.index x.state x.number home.marks w →
     HasNovelty t.index.width births x w
-has_novelty t pair births x home w filled stands counters found fits word size = record {
+has_novelty t pair births x home w filled stands counters found fits counted word size = record {
   range = size.range;
   least = by;
   attained = ⊎_elim
       (λ (last : w ≡ t.index.width + 1). inl last)
-      (λ (some : (tuple : List ℕ) × Contains (tuples_of t.index) tuple × (list_all (has x.state) tuple ≡ true) ×
-      (length tuple ≡ w) × (x.number ≤ first home.marks (place_of t.index.atoms tuple))).
-      let arrival : first home.marks (place_of t.index.atoms some.0) ≡ first_number births x.counters some.0 = stands.firsts pair home found some.0 some.1 ∙ ap (λ (c : ℕ × ℕ). first_number births c some.0) counters in
+      (λ (some : (tuple : List ℕ) × HasPlace t.index tuple × (list_all (has x.state) tuple ≡ true) ×
+      (length tuple ≡ w) × (x.number ≤ first home.marks (place_in t.index tuple))).
+      let arrival : first home.marks (place_in t.index some.0) ≡ first_number births x.counters some.0 = stands.firsts pair home found some.0 some.1 ∙ ap (λ (c : ℕ × ℕ). first_number births c some.0) counters in
       let late : x.number ≤ first_number births x.counters some.0 = omega (arith, some.4) in
       let answer : (tuple : List ℕ) × (length tuple ≡ w) × IsNewAt births x tuple =
       (some.0, some.3, is_new births x some.0 some.2 late) in inr answer)
       size.attained;
 }
   where
-    old : (tuple : List ℕ) → Contains (tuples_of t.index) tuple → length tuple < w → ¬ (IsNewAt births x tuple)
+    old : (tuple : List ℕ) → HasPlace t.index tuple → length tuple < w → ¬ (IsNewAt births x tuple)
     old tuple h short at =
-        let arrival : first home.marks (place_of t.index.atoms tuple) ≡ first_number births x.counters tuple = stands.firsts pair home found tuple h ∙ ap (λ (c : ℕ × ℕ). first_number births c tuple) counters in
-        let less : first home.marks (place_of t.index.atoms tuple) < x.number = size.least tuple h (all_in x.state tuple at.holds) short in
+        let arrival : first home.marks (place_in t.index tuple) ≡ first_number births x.counters tuple = stands.firsts pair home found tuple h ∙ ap (λ (c : ℕ × ℕ). first_number births c tuple) counters in
+        let less : first home.marks (place_in t.index tuple) < x.number = size.least tuple h (all_in x.state tuple at.holds) short in
         let early : first_number births x.counters tuple < x.number = omega arith in
         not_new births x tuple word early at
 
@@ -105,13 +105,14 @@ has_novelty t pair births x home w filled stands counters found fits word size =
     within p h = let less : p < length x.state = has_below x.state p h in omega arith
 
     one_old : (p : ℕ) → 1 < w → ¬ (IsNewAt births x (p ∷ []))
-    one_old p short at = old (p ∷ []) (atom_is_tuple t.index p filled.width.0 filled.width.1 (within p (All-head (IsIn x.state) p [] at.holds))) short at
+    one_old p short at = old (p ∷ []) (within p (All-head (IsIn x.state) p [] at.holds)) short at
 
     two_old : (p q : ℕ) → p < q → 2 < w → ¬ (IsNewAt births x (p ∷ q ∷ []))
     two_old p q less short at =
-        let two : t.index.width ≡ 2 = omega (arith, size.range.1, filled.width.1) in
+        let two : t.index.width ≡ 2 = omega (arith, size.range.1, filled.apart.width.1) in
+        let p_in : has x.state p ≡ true = All-head (IsIn x.state) p (q ∷ []) at.holds in
         let q_in : has x.state q ≡ true = All-head (IsIn x.state) q [] (All-tail (IsIn x.state) p (q ∷ []) at.holds) in
-        old (p ∷ q ∷ []) (pair_is_tuple t.index p q two less (within q q_in)) short at
+        old (p ∷ q ∷ []) (two, (less, within q q_in, counted two p q less p_in q_in)) short at
 
     by : (tuple : List ℕ) → 1 ≤ length tuple → length tuple < w → ¬ (IsNewAt births x tuple)
     by [] some short at = absurd (omega arith)
@@ -123,10 +124,10 @@ has_novelty t pair births x home w filled stands counters found fits word size =
         (λ (more : q < p). two_old q p more short (new_swapped births x p q at))
         differ)
         (cases_order p q)
-    by (p ∷ q ∷ r ∷ tuple) some short at = absurd (omega (arith, size.range.1, filled.width.1))
+    by (p ∷ q ∷ r ∷ tuple) some short at = absurd (omega (arith, size.range.1, filled.apart.width.1))
 
 pub novelty_is : (t : NoveltyTables) (pair : Pair) (births : List Generated) (x : Generated) (home : PassView) (w : ℕ) → AreFilled t → StandsFor t births →
-    counters_of pair ≡ x.counters → home_of t.homes pair ≡ Some home → length x.state ≡ t.index.atoms → x.number < 2 ^ 64 → IsLeastSize t.index x.state x.number home.marks w →
+    counters_of pair ≡ x.counters → home_of t.homes pair ≡ Some home → length x.state ≡ t.index.atoms → AreCounted t.index x.state → x.number < 2 ^ 64 → IsLeastSize t.index x.state x.number home.marks w →
     w ≡ novelty_of t.index.width births x
-novelty_is t pair births x home w filled stands counters found fits word size =
-    (novelty_is_computed t.index.width births x w).0 (has_novelty t pair births x home w filled stands counters found fits word size)
+novelty_is t pair births x home w filled stands counters found fits counted word size =
+    (novelty_is_computed t.index.width births x w).0 (has_novelty t pair births x home w filled stands counters found fits counted word size)

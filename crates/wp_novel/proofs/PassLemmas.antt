@@ -1,19 +1,17 @@
 -- The parts and the marks of the passes of a pair, and what homes lend and take.
-use Rattle.std.proofs.Common.{◌≡◌, ◌==◌, ◌||◌, ℕ, take, drop, get_or, ◌+◌, ◌<◌, ◌≤◌, cond, Bool, true, false, List, [], ◌∷◌, ◌++◌, length, map, refl, sym, ap, ◌∙◌, append_assoc, append-nil, arith}
+use Rattle.std.proofs.Common.{◌≡◌, ◌||◌, ℕ, ◌+◌, ◌≤◌, cond, Bool, true, false, List, [], ◌∷◌, ◌++◌, length, refl, sym, ap, ◌∙◌, append_assoc, append-nil, arith}
 use Rattle.std.specs.List.{All}
 use Rattle.std.proofs.lemmas.Grind.{flat_map-append}
 use Rattle.std.proofs.lemmas.List.Elements.{All-head, All-tail}
-use Rattle.wp_task.specs.Novelty.{Generated}
-use Rattle.wp_tuples.specs.TuplePlaces.{Indexed, place_of}
+use Rattle.wp_tuples.specs.Placing.{Placing}
 use Rattle.wp_arrive.specs.declared.view.Mark.{Mark}
-use Rattle.wp_arrive.specs.FirstArrival.{mark}
 use Rattle.wp_arrive.specs.Rule.{latest}
 use Rattle.wp_arrive.specs.Seen.{PassView, seen}
 use Rattle.wp_novel.specs.declared.birth.Pair.{Pair}
 use Rattle.wp_novel.specs.declared.job.JobPass.{JobPass}
+use Rattle.wp_novel.specs.Births.{BirthView}
 use Rattle.wp_novel.specs.NoveltyTables.{counters_of, is_pair}
-use Rattle.wp_novel.specs.Marks.{marks_at, birth_marks, marks_for}
-use Rattle.wp_novel.specs.TrueTuples.{tuples_after}
+use Rattle.wp_novel.specs.Marks.{birth_marks, marks_for}
 use Rattle.wp_novel.specs.Jobs.{JobView, passes_of, parts_at, passed_at, has_pass, Lends, Takes}
 use Rattle.wp_novel.proofs.PairLemmas.{is_pair-swapped}
 
@@ -93,23 +91,7 @@ latest-push [] m = refl
 latest-push (x ∷ []) m = refl
 latest-push (x ∷ y ∷ marks) m = latest-push (y ∷ marks) m
 
--- the marks of the pairs of an atom, by their row
-pub marks_at-row : (atoms number row q : ℕ) (before : List ℕ) → ((p : ℕ) → place_of atoms (p ∷ q ∷ []) ≡ row + p) →
-    map (λ p. mark (row + p) number) before ≡ marks_at atoms number (map (λ p. p ∷ q ∷ []) before)
-marks_at-row atoms number row q [] places = refl
-marks_at-row atoms number row q (p ∷ before) places = λ j. mark (sym (places p) j) number ∷ marks_at-row atoms number row q before places j
-
-pub marks_for-push : (index : Indexed) (counters : ℕ × ℕ) (births : List Generated) (b : Generated) →
-    marks_for index counters (births ++ b ∷ []) ≡ marks_for index counters births ++ birth_marks index counters b
-marks_for-push index counters births b =
-    flat_map-append (birth_marks index counters) births (b ∷ []) ∙ ap (λ l. marks_for index counters births ++ l) (append-nil (birth_marks index counters b))
-
--- the tuple of the first atom comes first
-pub first_atom : (width atoms number : ℕ) (xs : List ℕ) → 0 < length xs →
-    mark (place_of atoms (get_or xs 0 0 ∷ [])) number ∷ marks_at atoms number (tuples_after width (take 1 xs) (drop 1 xs)) ≡ marks_at atoms number (tuples_after width [] xs)
-first_atom width atoms number [] some = absurd (omega arith)
-first_atom width atoms number (x ∷ xs) some = by (width == 2) where
-  by : (b : Bool) → mark x number ∷ marks_at atoms number (tuples_after width (x ∷ []) xs)
-      ≡ marks_at atoms number (((x ∷ []) ∷ cond b [] []) ++ tuples_after width (x ∷ []) xs)
-  by true = refl
-  by false = refl
+pub marks_for-push : (places : Placing) (counters : ℕ × ℕ) (births : List BirthView) (b : BirthView) →
+    marks_for places counters (births ++ b ∷ []) ≡ marks_for places counters births ++ birth_marks places counters b
+marks_for-push places counters births b =
+    flat_map-append (birth_marks places counters) births (b ∷ []) ∙ ap (λ l. marks_for places counters births ++ l) (append-nil (birth_marks places counters b))

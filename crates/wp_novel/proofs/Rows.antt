@@ -1,6 +1,12 @@
--- First numbers of a few births.
+-- First numbers, marks and sizes of a few births.
 use Rattle.std.proofs.Common.{◌≡◌, ℕ, ◌-◌, ◌^◌, true, false, List, [], ◌∷◌, Some, None, refl}
-use Rattle.wp_task.specs.Novelty.{Generated}
+use Rattle.wp_task.specs.Novelty.{Generated, novelty_of}
+use Rattle.wp_tuples.specs.Placing.{Placing, all_placed}
+use Rattle.wp_arrive.specs.declared.view.Mark.{Mark}
+use Rattle.wp_arrive.specs.FirstArrival.{mark}
+use Rattle.wp_novel.specs.Births.{BirthView}
+use Rattle.wp_novel.specs.MarkedTuples.{new_atoms, old_atoms}
+use Rattle.wp_novel.specs.Marks.{marks_for, late_size}
 use Rattle.wp_novel.specs.StandsFor.{first_number, last_number}
 
 abbrev near : ℕ × ℕ
@@ -34,3 +40,47 @@ the_last = refl
 
 the_last_of_none : last_number [] ≡ None
 the_last_of_none = refl
+
+-- ---- of three atoms at width 2
+abbrev places : Placing
+places = all_placed (record { atoms = 3; width = 2 })
+
+abbrev first_birth : BirthView
+first_birth = record { node = record { number = 0; counters = near; state = true ∷ true ∷ false ∷ [] }; fresh = None }
+
+abbrev with_new : BirthView
+with_new = record { node = record { number = 1; counters = near; state = true ∷ true ∷ true ∷ [] }; fresh = Some (2 ∷ []) }
+
+abbrev without_new : BirthView
+without_new = record { node = record { number = 2; counters = near; state = true ∷ false ∷ true ∷ [] }; fresh = Some [] }
+
+all_are_new : marks_for places near (first_birth ∷ []) ≡ mark 0 0 ∷ mark 1 0 ∷ mark 3 0 ∷ []
+all_are_new = refl
+
+-- at {2}, {0, 2} and {1, 2}
+three_have_the_new_atom : marks_for places near (with_new ∷ []) ≡ mark 2 1 ∷ mark 4 1 ∷ mark 5 1 ∷ []
+three_have_the_new_atom = refl
+
+none_has_a_new_atom : marks_for places near (without_new ∷ []) ≡ []
+none_has_a_new_atom = refl
+
+other_counters_are_not_marked : marks_for places far (with_new ∷ []) ≡ []
+other_counters_are_not_marked = refl
+
+abbrev all_marks : List Mark
+all_marks = marks_for places near (first_birth ∷ with_new ∷ without_new ∷ [])
+
+the_new_atom_is_late : late_size places all_marks 1 (old_atoms with_new) (new_atoms with_new) ≡ 1
+the_new_atom_is_late = refl
+
+nothing_is_late : late_size places all_marks 2 (old_atoms without_new) (new_atoms without_new) ≡ 3
+nothing_is_late = refl
+
+abbrev their_nodes : List Generated
+their_nodes = first_birth.node ∷ with_new.node ∷ without_new.node ∷ []
+
+novelty_with_new : novelty_of 2 their_nodes with_new.node ≡ 1
+novelty_with_new = refl
+
+novelty_without_new : novelty_of 2 their_nodes without_new.node ≡ 3
+novelty_without_new = refl

@@ -1,150 +1,123 @@
--- From single atoms and pairs to all tuples of an index.
-use Rattle.std.proofs.Common.{◌≡◌, ◌&&◌, ℕ, zero, suc, ◌+◌, ◌<◌, ◌≤◌, Bool, true, get_or, List, [], ◌∷◌, length, refl, sym, ap, ◌∙◌, subst, inl, inr, ⊎_elim, arith}
-use Rattle.std.specs.List.{All, Contains, list_all}
-use Rattle.std.proofs.lemmas.Bool.{cases_lt, and_parts, and_from}
-use Rattle.std.proofs.lemmas.List.Kept.{AllPairs-from_increasing}
-use Rattle.wp_task.specs.Set.{has, atoms_in, AreAtoms}
-use Rattle.wp_task.proofs.Members.{In, In-at, Contains-from_In}
-use Rattle.wp_tuples.specs.TuplePlaces.{Indexed, place_of, tuples_of}
+-- From the late tuples among those with a new atom to the least size of a late tuple.
+use Rattle.std.proofs.Common.{◌≡◌, ◌==◌, ◌&&◌, ◌||◌, ℕ, ◌+◌, ◌<◌, ◌≤◌, cond, not, Bool, true, false, List, [], ◌∷◌, length, map, refl, sym, ap, ◌∙◌, inl, inr, ⊎_elim, arith}
+use Rattle.std.specs.Prelude.{nat_lt}
+use Rattle.std.specs.List.{list_all, list_any}
+use Rattle.std.proofs.lemmas.Bool.{cases_Bool, both_ways, eqb-true, eq-eqb, and_parts, ltb-true, ltb-false}
+use Rattle.wp_task.specs.Set.{has}
+use Rattle.wp_task.proofs.Members.{In, list_any-from, list_any-at}
+use Rattle.wp_tuples.specs.Placing.{Placing, HasPlace, place_in, AreApart}
 use Rattle.wp_arrive.specs.declared.view.Mark.{Mark}
 use Rattle.wp_arrive.specs.FirstArrival.{first}
-use Rattle.wp_novel.specs.Marks.{IsLeastSize}
-use Rattle.wp_novel.proofs.AtomLemmas.{in_atoms, has_atoms}
-use Rattle.wp_novel.proofs.MarkLemmas.{row}
-use Rattle.wp_novel.proofs.TrueTupleLemmas.{and_true, all_of_pair}
-use Rattle.wp_novel.proofs.TupleLemmas.{IsAtom, IsPairOfAtoms, tuple_cases, atom_is_tuple, pair_is_tuple}
+use Rattle.wp_novel.specs.Births.{BirthView, is_new}
+use Rattle.wp_novel.specs.MarkedTuples.{pairs_after, new_atoms, old_atoms, AreCounted}
+use Rattle.wp_novel.specs.Marks.{is_late, late_size, IsLeastSize}
+use Rattle.wp_novel.specs.Dealing.{IsEarlierAtOld}
+use Rattle.wp_novel.proofs.MarkedTupleLemmas.{and_true, not_true, all_of_pair, single_listed, pair_listed, single_is, pair_is}
 
--- ---- least sizes
-abbrev IsAtomSize : Indexed → List Bool → ℕ → List Mark → Type 0
-IsAtomSize index state number marks = (p : ℕ) × (p < index.atoms) × (has state p ≡ true) × (number ≤ first marks p)
+late_is : (m n : ℕ) → not (nat_lt m n) ≡ true → n ≤ m
+late_is m n h = ltb-false m n (not_true (nat_lt m n) h)
 
-abbrev IsPairSize : Indexed → List Bool → ℕ → List Mark → Type 0
-IsPairSize index state number marks =
-    (p q : ℕ) × (p < q) × (q < index.atoms) × (has state p ≡ true) × (has state q ≡ true) × (number ≤ first marks (row index.atoms q + p))
+early_is : (m n : ℕ) → not (nat_lt m n) ≡ false → m < n
+early_is m n h = ltb-true m n (not_false (nat_lt m n) h) where
+  not_false : (b : Bool) → not b ≡ false → b ≡ true
+  not_false true h = refl
+  not_false false h = absurd (cc)
 
-abbrev Attained : Indexed → List Bool → ℕ → List Mark → ℕ → Type 0
-Attained index state number marks w = (tuple : List ℕ) × Contains (tuples_of index) tuple × (list_all (has state) tuple ≡ true) ×
-    (length tuple ≡ w) × (number ≤ first marks (place_of index.atoms tuple))
+module _ (places : Placing) (apart : AreApart places) (b : BirthView) (marks : List Mark) (size : length b.node.state ≡ places.atoms)
+    (counted : AreCounted places b.node.state) (earlier : IsEarlierAtOld places marks b) where
+  abbrev state : List Bool
+  state = b.node.state
 
--- the first numbers of tuples of fewer than w atoms are below the number, where those of atoms and, if need be, those of pairs are
-least : (index : Indexed) (state : List Bool) (number : ℕ) (marks : List Mark) (w : ℕ) → 1 ≤ index.width → index.width ≤ 2 →
-    (1 < w → (p : ℕ) → has state p ≡ true → first marks p < number) →
-    (2 < w → index.width ≡ 2 → (p q : ℕ) → p < q → has state p ≡ true → has state q ≡ true → first marks (row index.atoms q + p) < number) →
-    (tuple : List ℕ) → Contains (tuples_of index) tuple → list_all (has state) tuple ≡ true → length tuple < w → first marks (place_of index.atoms tuple) < number
-least index state number marks w low high atoms pairs tuple h all short =
-    let Below : List ℕ → Type 0 = λ (t : List ℕ). first marks (place_of index.atoms t) < number in
-    ⊎_elim
-    (λ (one : IsAtom index.atoms tuple).
-    let size : length tuple ≡ 1 = ap (λ (t : List ℕ). length t) one.2 in
-    let has_it : has state one.0 ≡ true = sym (and_true (has state one.0)) ∙ ap (list_all (has state)) (sym one.2) ∙ all in
-    subst Below (sym one.2) (atoms (omega arith) one.0 has_it))
-    (λ (two : (index.width ≡ 2) × IsPairOfAtoms index.atoms tuple).
-    let pair : IsPairOfAtoms index.atoms tuple = two.1 in
-    let size : length tuple ≡ 2 = ap (λ (t : List ℕ). length t) pair.4 in
-    let both : (has state pair.0 && has state pair.1) ≡ true = sym (all_of_pair state pair.0 pair.1) ∙ ap (list_all (has state)) (sym pair.4) ∙ all in
-    let parts = and_parts (has state pair.0) (has state pair.1) both in
-    subst Below (sym pair.4) (pairs (omega arith) two.0 pair.0 pair.1 pair.2 parts.0 parts.1))
-    (tuple_cases index tuple low high h)
+  abbrev late : List ℕ → Bool
+  late = is_late places marks b.node.number
 
-pub atom_size : (index : Indexed) (state : List Bool) (number : ℕ) (marks : List Mark) → 1 ≤ index.width → index.width ≤ 2 →
-    IsAtomSize index state number marks → IsLeastSize index state number marks 1
-atom_size index state number marks low high some =
-    let found : Attained index state number marks 1 =
-    (some.0 ∷ [], atom_is_tuple index some.0 low high some.1, and_true (has state some.0) ∙ some.2, refl, some.3) in
-    record {
-      range = (omega arith, omega arith);
-      least = least index state number marks 1 low high (λ more. absurd (omega arith)) (λ more. absurd (omega arith));
-      attained = inr found;
-    }
+  abbrev singles : List (List ℕ)
+  singles = map (λ (p : ℕ). p ∷ []) (new_atoms b)
 
-pub pair_size : (index : Indexed) (state : List Bool) (number : ℕ) (marks : List Mark) → index.width ≡ 2 →
-    ((p : ℕ) → has state p ≡ true → first marks p < number) →
-    IsPairSize index state number marks → IsLeastSize index state number marks 2
-pair_size index state number marks two atoms some =
-    let found : Attained index state number marks 2 = (
-      some.0 ∷ some.1 ∷ [],
-      pair_is_tuple index some.0 some.1 two some.2 some.3,
-      all_of_pair state some.0 some.1 ∙ and_from (has state some.0) (has state some.1) some.4 some.5,
-      refl,
-      some.6,
-    ) in
-    record {
-      range = (omega arith, omega arith);
-      least = least index state number marks 2 (omega arith) (omega arith) (λ more. atoms) (λ more. absurd (omega arith));
-      attained = inr found;
-    }
+  abbrev pairs : List (List ℕ)
+  pairs = pairs_after (old_atoms b) (new_atoms b)
 
-pub no_size : (index : Indexed) (state : List Bool) (number : ℕ) (marks : List Mark) → 1 ≤ index.width → index.width ≤ 2 →
-    ((p : ℕ) → has state p ≡ true → first marks p < number) →
-    (index.width ≡ 2 → (p q : ℕ) → p < q → has state p ≡ true → has state q ≡ true → first marks (row index.atoms q + p) < number) →
-    IsLeastSize index state number marks (index.width + 1)
-no_size index state number marks low high atoms pairs = record {
+  abbrev IsEarly : List ℕ → Type 0
+  IsEarly tuple = first marks (place_in places tuple) < b.node.number
+
+  -- no tuple of a list is late
+  none_late : (tuples : List (List ℕ)) → list_any late tuples ≡ false → (tuple : List ℕ) → In tuple tuples → IsEarly tuple
+  none_late tuples none tuple among = early_is (first marks (place_in places tuple)) b.node.number (⊎_elim
+      (λ (h : late tuple ≡ true). absurd (both_ways (list_any late tuples) none (list_any-from late tuples tuple among h)))
+      (λ (h : late tuple ≡ false). h)
+      (cases_Bool (late tuple)))
+
+  early_single : list_any late singles ≡ false → (p : ℕ) → p < places.atoms → list_all (has state) (p ∷ []) ≡ true → IsEarly (p ∷ [])
+  early_single none p below all = ⊎_elim
+      (λ (new : is_new b.fresh p ≡ true). none_late singles none (p ∷ []) (single_listed b p (sym (and_true (has state p)) ∙ all) new))
+      (λ (old : is_new b.fresh p ≡ false). earlier (p ∷ []) below all (ap (λ x. x || false) old))
+      (cases_Bool (is_new b.fresh p))
+
+  early_pair : list_any late pairs ≡ false → (p q : ℕ) → HasPlace places (p ∷ q ∷ []) → list_all (has state) (p ∷ q ∷ []) ≡ true → IsEarly (p ∷ q ∷ [])
+  early_pair none p q place all =
+      let parts = and_parts (has state p) (has state q) (sym (all_of_pair state p q) ∙ all) in
+      ⊎_elim
+      (λ (new : is_new b.fresh p ≡ true). none_late pairs none (p ∷ q ∷ []) (pair_listed b p q place.1.0 parts.0 parts.1 (inl new)))
+      (λ (first_old : is_new b.fresh p ≡ false). ⊎_elim
+      (λ (new : is_new b.fresh q ≡ true). none_late pairs none (p ∷ q ∷ []) (pair_listed b p q place.1.0 parts.0 parts.1 (inr new)))
+      (λ (old : is_new b.fresh q ≡ false). earlier (p ∷ q ∷ []) place all (λ j. first_old j || (old j || false)))
+      (cases_Bool (is_new b.fresh q)))
+      (cases_Bool (is_new b.fresh p))
+
+  -- tuples of fewer than w atoms are early where single atoms and, if need be, pairs are
+  least : (w : ℕ) → (1 < w → list_any late singles ≡ false) → (2 < w → places.width ≡ 2 → list_any late pairs ≡ false) →
+      (tuple : List ℕ) → HasPlace places tuple → list_all (has state) tuple ≡ true → length tuple < w → IsEarly tuple
+  least w one two [] place all short = absurd place
+  least w one two (p ∷ []) place all short = early_single (one short) p place all
+  least w one two (p ∷ q ∷ []) place all short = early_pair (two short place.0) p q place all
+  least w one two (p ∷ q ∷ r ∷ tuple) place all short = absurd place
+
+  abbrev Attained : ℕ → Type 0
+  Attained w = (tuple : List ℕ) × HasPlace places tuple × (list_all (has state) tuple ≡ true) × (length tuple ≡ w) × (b.node.number ≤ first marks (place_in places tuple))
+
+  size_one : list_any late singles ≡ true → IsLeastSize places state b.node.number marks 1
+  size_one some =
+      let found = list_any-at late singles some in
+      let at = single_is b places size counted found.0 found.1 in
+      let attained : Attained 1 = (found.0, at.2.0, at.2.1, ap (λ (u : List ℕ). length u) at.1, late_is (first marks (place_in places found.0)) b.node.number found.2) in
+      record {
+        range = (omega arith, omega (arith, apart.width.0));
+        least = least 1 (λ more. absurd (omega arith)) (λ more. absurd (omega arith));
+        attained = inr attained;
+      }
+
+  size_two : list_any late singles ≡ false → places.width ≡ 2 → list_any late pairs ≡ true → IsLeastSize places state b.node.number marks 2
+  size_two none two some =
+      let found = list_any-at late pairs some in
+      let at = pair_is b places size counted two found.0 found.1 in
+      let attained : Attained 2 = (found.0, at.1.0, at.1.1, at.0, late_is (first marks (place_in places found.0)) b.node.number found.2) in
+      record {
+        range = (omega arith, omega arith);
+        least = least 2 (λ more. none) (λ more. absurd (omega arith));
+        attained = inr attained;
+      }
+
+  size_none : list_any late singles ≡ false → (places.width ≡ 2 → list_any late pairs ≡ false) → IsLeastSize places state b.node.number marks (places.width + 1)
+  size_none none nor = record {
+    range = (omega arith, omega arith);
+    least = least (places.width + 1) (λ more. none) (λ more. nor);
+    attained = inl refl;
+  }
+
+  pub late_size_is : IsLeastSize places state b.node.number marks (late_size places marks b.node.number (old_atoms b) (new_atoms b))
+  late_size_is = by (list_any late singles) (places.width == 2) (list_any late pairs) refl refl refl where
+    by : (one wide two : Bool) → list_any late singles ≡ one → (places.width == 2) ≡ wide → list_any late pairs ≡ two →
+        IsLeastSize places state b.node.number marks (cond one 1 (cond (wide && two) 2 (places.width + 1)))
+    by true wide two one_is wide_is two_is = size_one one_is
+    by false true true one_is wide_is two_is = size_two one_is (eqb-true places.width 2 wide_is) two_is
+    by false true false one_is wide_is two_is = size_none one_is (λ h. two_is)
+    by false false two one_is wide_is two_is = size_none one_is (λ h. absurd (both_ways (places.width == 2) wide_is (eq-eqb places.width 2 h)))
+
+-- where there are no places no tuple is late
+pub size_of_none : (places : Placing) (state : List Bool) (number : ℕ) (marks : List Mark) → AreApart places → places.len ≡ 0 →
+    IsLeastSize places state number marks (places.width + 1)
+size_of_none places state number marks apart none = record {
   range = (omega arith, omega arith);
-  least = least index state number marks (index.width + 1) low high (λ more. atoms) (λ more. pairs);
+  least = λ tuple place all short. let below : place_in places tuple < places.len = apart.below tuple place in absurd (omega arith);
   attained = inl refl;
 }
-
--- ---- by the list of the atoms
-module _ (index : Indexed) (state : List Bool) (number : ℕ) (marks : List Mark) (atoms : List ℕ) (are : AreAtoms index.atoms atoms) (listed : atoms ≡ atoms_in state) where
-  place_in : (p : ℕ) → has state p ≡ true → (k : ℕ) × (k < length atoms) × (get_or atoms k 0 ≡ p)
-  place_in p passes =
-      let there : Contains atoms p = Contains-from_In p atoms (subst (In p) (sym listed) (in_atoms state p passes)) in
-      let found : (k : ℕ) × (k < length atoms) × (get_or atoms k 0 ≡ p) = (there.0, there.1, default atoms there.0 p there.1 there.2) in found
-    where
-      default : (xs : List ℕ) (k d : ℕ) → k < length xs → get_or xs k d ≡ d → get_or xs k 0 ≡ d
-      default [] k d h e = absurd (omega arith)
-      default (x ∷ xs) zero d h e = e
-      default (x ∷ xs) (suc k) d h e = default xs k d (omega arith) e
-
-  has_at : (k : ℕ) → k < length atoms → has state (get_or atoms k 0) ≡ true
-  has_at k within =
-      has_atoms state (get_or atoms k 0) (subst (In (get_or atoms k 0)) listed (In-at (get_or atoms k 0) atoms k within (same atoms k within)))
-    where
-      same : (xs : List ℕ) (k : ℕ) → k < length xs → get_or xs k (get_or xs k 0) ≡ get_or xs k 0
-      same [] k h = absurd (omega arith)
-      same (x ∷ xs) zero h = refl
-      same (x ∷ xs) (suc k) h = same xs k (omega arith)
-
-  pub atoms_early : All (λ p. first marks (0 + p) < number) atoms → (p : ℕ) → has state p ≡ true → first marks p < number
-  atoms_early all p passes =
-      let found = place_in p passes in
-      let early : first marks (0 + get_or atoms found.0 0) < number = all found.0 0 found.1 in
-      let same : 0 + get_or atoms found.0 0 ≡ p = omega (arith, found.2) in
-      subst (λ (q : ℕ). first marks q < number) same early
-
-  pub atom_late : (k : ℕ) → k < length atoms → number ≤ first marks (0 + get_or atoms k 0) → IsAtomSize index state number marks
-  atom_late k within late =
-      let p : ℕ = get_or atoms k 0 in
-      let same : 0 + p ≡ p = omega arith in
-      let below : p < index.atoms = are.below k 0 within in
-      let there : number ≤ first marks p = subst (λ (q : ℕ). number ≤ first marks q) same late in
-      let found : IsAtomSize index state number marks = (p, below, has_at k within, there) in found
-
-  pub pairs_early : ((i j : ℕ) → i < j → j < length atoms → first marks (row index.atoms (get_or atoms j 0) + get_or atoms i 0) < number) →
-      (p q : ℕ) → p < q → has state p ≡ true → has state q ≡ true → first marks (row index.atoms q + p) < number
-  pairs_early all p q less one other =
-      let at_p = place_in p one in
-      let at_q = place_in q other in
-      let order : at_p.0 < at_q.0 = ⊎_elim
-      (λ (before : at_p.0 < at_q.0). before)
-      (λ (after : at_q.0 ≤ at_p.0). ⊎_elim
-      (λ (strict : at_q.0 < at_p.0).
-      let wrong : get_or atoms at_q.0 0 < get_or atoms at_p.0 0 = AllPairs-from_increasing atoms are.rising at_q.0 at_p.0 0 strict at_p.1 in
-      absurd (omega (arith, at_p.2, at_q.2)))
-      (λ (equal : at_p.0 ≤ at_q.0).
-      let same : at_p.0 ≡ at_q.0 = omega arith in
-      let value : get_or atoms at_p.0 0 ≡ get_or atoms at_q.0 0 = ap (λ k. get_or atoms k 0) same in
-      absurd (omega (arith, at_p.2, at_q.2)))
-      (cases_lt at_q.0 at_p.0))
-      (cases_lt at_p.0 at_q.0) in
-      let early = all at_p.0 at_q.0 order at_q.1 in
-      subst (λ (k : ℕ). first marks (row index.atoms q + k) < number) at_p.2
-      (subst (λ (k : ℕ). first marks (row index.atoms k + get_or atoms at_p.0 0) < number) at_q.2 early)
-
-  pub pair_late : (i j : ℕ) → i < j → j < length atoms → number ≤ first marks (row index.atoms (get_or atoms j 0) + get_or atoms i 0) →
-      IsPairSize index state number marks
-  pair_late i j less within late =
-      let rise : get_or atoms i 0 < get_or atoms j 0 = AllPairs-from_increasing atoms are.rising i j 0 less within in
-      let below : get_or atoms j 0 < index.atoms = are.below j 0 within in
-      let found : IsPairSize index state number marks =
-      (get_or atoms i 0, get_or atoms j 0, rise, below, has_at i (omega arith), has_at j within, late) in found

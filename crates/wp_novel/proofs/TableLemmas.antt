@@ -1,5 +1,5 @@
 -- Tables as pairs are opened, and what they stand for.
-use Rattle.std.proofs.Common.{◌≡◌, ◌&&◌, ◌||◌, ℕ, suc, ◌+◌, ◌-◌, ◌*◌, ◌^◌, ◌<◌, ◌≤◌, min, cond, true, false, List, [], ◌∷◌, ◌++◌, length, get_or, map, Some, refl, sym, ap, ◌∙◌, subst, ⊎_elim, arith, append-nil, length-append}
+use Rattle.std.proofs.Common.{◌≡◌, ◌&&◌, ◌||◌, ℕ, suc, ◌+◌, ◌-◌, ◌*◌, ◌^◌, ◌<◌, ◌≤◌, min, cond, true, false, List, [], ◌∷◌, ◌++◌, length, get_or, map, Option, Some, refl, sym, ap, ◌∙◌, subst, ⊎_elim, arith, append-nil, length-append}
 use Rattle.std.specs.Prelude.{slice_get, option_map}
 use Rattle.std.specs.List.{All, AllPairs, list_all, list_any}
 use Rattle.std.specs.Map.{keys_of}
@@ -12,7 +12,7 @@ use Rattle.std.proofs.lemmas.Option.{slice_get-get_or}
 use Rattle.std.proofs.Math.Nat.{suc-mul}
 use Rattle.wp_task.specs.Set.{has}
 use Rattle.wp_task.specs.Novelty.{Generated}
-use Rattle.wp_tuples.specs.TuplePlaces.{place_of, tuples_of}
+use Rattle.wp_tuples.specs.Placing.{Placing, place_in}
 use Rattle.wp_arrive.specs.declared.view.Mark.{Mark}
 use Rattle.wp_arrive.specs.FirstArrival.{first}
 use Rattle.wp_arrive.specs.Seen.{PassView}
@@ -22,6 +22,9 @@ use Rattle.wp_novel.specs.StandsFor.{first_number, last_number, last_after, Stan
 use Rattle.wp_novel.proofs.PairLemmas.{Homes, same_pair, same_counters, opened_cases}
 
 -- ---- a pair more
+abbrev pub with_homes : Placing → ℕ → Option ℕ → List ℕ → Homes → NoveltyTables
+with_homes places limit last out homes = record { index = places; limit = limit; homes = homes; last = last; out = out }
+
 abbrev pub opened : NoveltyTables → Pair → PassView → NoveltyTables
 opened t pair home = record t { homes = t.homes ++ (pair, home) ∷ [] }
 
@@ -29,16 +32,16 @@ pub pairs_more : (homes : Homes) (pair : Pair) (home : PassView) → pairs_of (h
 pairs_more homes pair home =
     ap (λ (ks : List Pair). map counters_of ks) (map_push (λ (e : Pair × PassView). e.0) homes (pair, home)) ∙ map_push counters_of (keys_of homes) pair
 
-pub filled_more : (t : NoveltyTables) (pair : Pair) (home : PassView) → AreFilled t → home.table.words ≡ length (tuples_of t.index) →
-    length t.homes * length (tuples_of t.index) + length (tuples_of t.index) ≤ t.limit → AreFilled (opened t pair home)
+pub filled_more : (t : NoveltyTables) (pair : Pair) (home : PassView) → AreFilled t → home.table.words ≡ t.index.len →
+    length t.homes * t.index.len + t.index.len ≤ t.limit → AreFilled (opened t pair home)
 filled_more t pair home filled words fits = record {
-  width = filled.width;
+  apart = filled.apart;
   words = λ q found e. ⊎_elim
       (λ (was : home_of t.homes q ≡ Some found). filled.words q found was)
       (λ (new : (is_pair q pair ≡ true) × (home ≡ found)). sym (ap (λ (h : PassView). h.table.words) new.1) ∙ words)
       (opened_cases t.homes pair home q found e);
   within =
-      let n : ℕ = length (tuples_of t.index) in
+      let n : ℕ = t.index.len in
       let more : length (t.homes ++ (pair, home) ∷ []) ≡ suc (length t.homes) = length_push t.homes (pair, home) ∙ (let e : length t.homes + 1 ≡ suc (length t.homes) = omega arith in e) in
       let product : length (t.homes ++ (pair, home) ∷ []) * n ≡ length t.homes * n + n = ap (λ k. k * n) more ∙ suc-mul (length t.homes) n in
       omega arith;
@@ -78,7 +81,7 @@ stands_more t pair home births unmarked closed stands = record {
       (λ (was : home_of t.homes q ≡ Some found). stands.firsts q found was tuple h)
       (λ (new : (is_pair q pair ≡ true) × (home ≡ found)).
       let none : found.marks ≡ [] = ap (λ (x : PassView). x.marks) (sym new.1) ∙ unmarked in
-      ap (λ (l : List Mark). first l (place_of t.index.atoms tuple)) none
+      ap (λ (l : List Mark). first l (place_in t.index tuple)) none
       ∙ sym (none_first (pairs_of t.homes) (counters_of q) tuple births (ap (λ p. is_among (pairs_of t.homes) (counters_of p)) (same_pair q pair new.0) ∙ closed) stands.pairs))
       (opened_cases t.homes pair home q found e);
 }

@@ -7,7 +7,7 @@ use Rattle.std.proofs.lemmas.Bool.{cases_Bool, cases_lt}
 use Rattle.std.proofs.lemmas.List.{length_push, nil_from_length}
 use Rattle.std.proofs.lemmas.List.Elements.{All-nil, All-cons, All-head, All-push, All-append, All-weaker}
 use Rattle.std.proofs.lemmas.List.Folds.{list_any-append}
-use Rattle.wp_task.specs.Novelty.{Generated}
+use Rattle.wp_novel.specs.Births.{BirthView}
 use Rattle.wp_arrive.specs.Seen.{PassView, seen}
 use Rattle.wp_novel.specs.declared.birth.Pair.{Pair}
 use Rattle.wp_novel.specs.declared.job.JobPass.{JobPass}
@@ -115,12 +115,12 @@ given_before passes homes now become p given =
       given = given.given ∙ ap (λ t. seen t [] 1) before.2.table;
     }
 
-pub passes_before : (passes : List JobPass) (homes now : Homes) (births : List Generated) (given : List JobPass) → HomesBecome (Lends passes) homes now →
+pub passes_before : (passes : List JobPass) (homes now : Homes) (births : List BirthView) (given : List JobPass) → HomesBecome (Lends passes) homes now →
     ArePassesFor now births given → ArePassesFor homes births given
 passes_before passes homes now births given become are = record {
   given = All-weaker (IsGivenOf now) (IsGivenOf homes) (λ p h. given_before passes homes now become p h) given are.given;
-  covers = All-weaker (λ (b : Generated). HasWords now b.counters → has_pass given b.counters ≡ true) (λ (b : Generated). HasWords homes b.counters → has_pass given b.counters ≡ true)
-      (λ b h words. h (had_words passes homes now become b.counters words)) births are.covers;
+  covers = All-weaker (λ (b : BirthView). HasWords now b.node.counters → has_pass given b.node.counters ≡ true) (λ (b : BirthView). HasWords homes b.node.counters → has_pass given b.node.counters ≡ true)
+      (λ b h words. h (had_words passes homes now become b.node.counters words)) births are.covers;
   one = are.one;
   only = are.only;
   few = are.few;
@@ -143,14 +143,14 @@ more_parts q pair homes (p ∷ []) new few =
     (few, λ apart. parts_at-one p q false (same ∙ apart))
 more_parts q pair homes (p ∷ r ∷ more) new few = absurd (omega arith)
 
-pub given_more : (homes now later : Homes) (done : List Generated) (b : Generated) (pair : Pair) (passes after : List JobPass) → ArePassesFor homes done passes →
-    HomesBecome (Lends passes) homes now → counters_of pair ≡ b.counters → TakesPass pair passes after now later → ArePassesFor homes (done ++ b ∷ []) after
+pub given_more : (homes now later : Homes) (done : List BirthView) (b : BirthView) (pair : Pair) (passes after : List JobPass) → ArePassesFor homes done passes →
+    HomesBecome (Lends passes) homes now → counters_of pair ≡ b.node.counters → TakesPass pair passes after now later → ArePassesFor homes (done ++ b ∷ []) after
 given_more homes now later done b pair passes after are become same takes = record {
   given = subst (All (IsGivenOf homes)) (sym takes.is) (All-append (IsGivenOf homes) passes takes.more are.given
       (All-weaker (IsNew pair now) (IsGivenOf homes) (λ p h. given_before passes homes now become p h.1) takes.more takes.given));
-  covers = All-push (λ (x : Generated). HasWords homes x.counters → has_pass after x.counters ≡ true) done b
-      (All-weaker (λ (x : Generated). HasWords homes x.counters → has_pass passes x.counters ≡ true)
-      (λ (x : Generated). HasWords homes x.counters → has_pass after x.counters ≡ true) (λ x h words. still x.counters (h words)) done are.covers)
+  covers = All-push (λ (x : BirthView). HasWords homes x.node.counters → has_pass after x.node.counters ≡ true) done b
+      (All-weaker (λ (x : BirthView). HasWords homes x.node.counters → has_pass passes x.node.counters ≡ true)
+      (λ (x : BirthView). HasWords homes x.node.counters → has_pass after x.node.counters ≡ true) (λ x h words. still x.node.counters (h words)) done are.covers)
       (λ words. ap (has_pass after) (sym same) ∙ takes.covers (had_words passes homes now become (counters_of pair) (subst (HasWords homes) (sym same) words)));
   one = one;
   only = subst (All Has) (sym takes.is) (All-append Has passes takes.more
@@ -159,8 +159,8 @@ given_more homes now later done b pair passes after are become same takes = reco
   few = omega (arith, ap (λ (l : List JobPass). length l) takes.is, length-append passes takes.more, length_push done b, are.few, takes.few);
 }
   where
-    is_of : JobPass → Generated → Bool
-    is_of p x = is_same x.counters (counters_of p.pair)
+    is_of : JobPass → BirthView → Bool
+    is_of p x = is_same x.node.counters (counters_of p.pair)
 
     Had : JobPass → Type 0
     Had p = list_any (is_of p) done ≡ true
@@ -169,7 +169,7 @@ given_more homes now later done b pair passes after are become same takes = reco
     Has p = list_any (is_of p) (done ++ b ∷ []) ≡ true
 
     last : (p : JobPass) → p.pair ≡ pair → list_any (is_of p) (b ∷ []) ≡ true
-    last p is = ap (λ x. x || false) (ap (is_same b.counters) (ap counters_of is ∙ same) ∙ is_same_itself b.counters)
+    last p is = ap (λ x. x || false) (ap (is_same b.node.counters) (ap counters_of is ∙ same) ∙ is_same_itself b.node.counters)
 
     still : (x : ℕ × ℕ) → has_pass passes x ≡ true → has_pass after x ≡ true
     still x h = ap (λ l. has_pass l x) takes.is ∙ (list_any-append (λ (p : JobPass). is_same (counters_of p.pair) x) passes takes.more ∙ ap (λ y. y || has_pass takes.more x) h)
@@ -193,8 +193,8 @@ given_more homes now later done b pair passes after are become same takes = reco
         (cases_lt 0 (length takes.more))
 
 -- ---- what a birth's pair can give
-pub lend_open : (passes : List JobPass) (homes now : Homes) (b : Generated) (pair : Pair) → HomesBecome (Lends passes) homes now →
-    is_among (pairs_of homes) b.counters ≡ true → counters_of pair ≡ b.counters → IsSome (home_of now pair)
+pub lend_open : (passes : List JobPass) (homes now : Homes) (b : BirthView) (pair : Pair) → HomesBecome (Lends passes) homes now →
+    is_among (pairs_of homes) b.node.counters ≡ true → counters_of pair ≡ b.node.counters → IsSome (home_of now pair)
 lend_open passes homes now b pair become there same =
     open_home now pair (ap (λ ps. is_among ps (counters_of pair)) (same_pairs (Lends passes) homes now become) ∙ (ap (is_among (pairs_of homes)) same ∙ there))
 

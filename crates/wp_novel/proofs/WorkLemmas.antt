@@ -1,7 +1,7 @@
 -- Jobs that are dealt, worked and collected: what tables are for them, and what they are for tables.
 use Rattle.std.proofs.Common.{◌≡◌, ◌||◌, ◌*◌, ℕ, ◌+◌, ◌-◌, ◌^◌, ◌<◌, ◌≤◌, min, cond, Bool, true, false, List, [], ◌∷◌, ◌++◌, length, get_or, map, Option, Some, None, refl, sym, ap, ◌∙◌, subst, ⊎_elim, append-nil, arith}
 use Rattle.std.specs.Prelude.{IfSome}
-use Rattle.std.specs.List.{All, AllPairs, flat_map, list_any}
+use Rattle.std.specs.List.{All, AllPairs, Contains, flat_map, list_any}
 use Rattle.std.proofs.lemmas.Bool.{cases_Bool, both_ways, false_from_ne_true}
 use Rattle.std.proofs.lemmas.Grind.{flat_map-append}
 use Rattle.std.proofs.lemmas.List.{get_or-map, length-map}
@@ -9,8 +9,7 @@ use Rattle.std.proofs.lemmas.List.Elements.{All-nil, All-cons, All-head, All-tai
 use Rattle.std.proofs.lemmas.List.Folds.{flat_map-map}
 use Rattle.std.proofs.lemmas.Map.Entries.{length-keys_of}
 use Rattle.wp_task.specs.Novelty.{Generated}
-use Rattle.wp_tuples.specs.TuplePlaces.{Indexed, place_of, tuples_of}
-use Rattle.wp_tuples.proofs.PlaceLemmas.{are_numbered}
+use Rattle.wp_tuples.specs.Placing.{Placing, HasPlace, place_in}
 use Rattle.wp_arrive.specs.declared.view.Mark.{Mark}
 use Rattle.wp_arrive.specs.FirstArrival.{first}
 use Rattle.wp_arrive.specs.Seen.{PassView}
@@ -18,27 +17,29 @@ use Rattle.wp_arrive.proofs.Firsts.{first_append}
 use Rattle.wp_novel.specs.declared.birth.Pair.{Pair}
 use Rattle.wp_novel.specs.declared.job.JobPass.{JobPass}
 use Rattle.wp_novel.specs.declared.deal.Share.{Share}
-use Rattle.wp_novel.specs.NoveltyTables.{NoveltyTables, AreFilled, IsAtHome, counters_of, is_same, is_among, IsOpen, is_pair}
-use Rattle.wp_novel.specs.StandsFor.{first_number, last_after, StandsFor}
+use Rattle.wp_novel.specs.Births.{BirthView, nodes_of, numbers_of}
+use Rattle.wp_novel.specs.MarkedTuples.{marked_tuples}
+use Rattle.wp_novel.specs.NoveltyTables.{NoveltyTables, AreFilled, IsAtHome, counters_of, is_same, is_among, IsOpen, is_pair, home_of}
+use Rattle.wp_novel.specs.StandsFor.{has_tuple, first_number, last_number, last_after, StandsFor, AreMarkedBelow}
 use Rattle.wp_novel.specs.Marks.{marks_at, birth_marks, marks_for}
-use Rattle.wp_novel.specs.TrueTuples.{true_tuples}
-use Rattle.wp_novel.specs.Jobs.{JobView, IsPassOf, IsJobOf, AreOut, HomesBecome, Lends, Takes, worked_pass, worked_job, numbers_of, births_of, passes_of, parts_at, passed_at, has_pass, WorkIsOut}
-use Rattle.wp_novel.specs.Dealing.{births_in, HasWords, AreRoomy, AreGiven, ArePassesFor, IsGivenOf, CanMark}
+use Rattle.wp_novel.specs.Jobs.{JobView, IsReady, IsPassOf, IsJobOf, AreOut, HomesBecome, Lends, Takes, worked_pass, worked_job, births_of, passes_of, parts_at, passed_at, has_pass, WorkIsOut}
+use Rattle.wp_novel.specs.Dealing.{births_in, HasWords, AreRoomy, AreGiven, ArePassesFor, IsGivenOf, CanMark, CanBeMarked}
 use Rattle.wp_novel.proofs.PairLemmas.{Homes, same_pair, same_counters, is_pair-swapped}
 use Rattle.wp_novel.proofs.HomeLemmas.{Was, was, each_after, same_pairs}
-use Rattle.wp_novel.proofs.FirstLemmas.{first_number-append}
-use Rattle.wp_novel.proofs.MarkLemmas.{first_of_births}
+use Rattle.wp_novel.proofs.FirstLemmas.{first_number-append, first_number_is_first}
+use Rattle.wp_novel.proofs.MarkLemmas.{CanCount, IsNoEarlier, first_of_births}
+use Rattle.wp_novel.proofs.MarkedTupleLemmas.{marked_have_places}
 use Rattle.wp_novel.proofs.PassLemmas.{parts_at-append, passed_at-append, no_parts}
 use Rattle.wp_novel.proofs.JobLemmas.{births_in_share, All-left, All-right}
 use Rattle.wp_novel.proofs.TableLemmas.{pairs_append, last_is_greatest, last_number-append}
 
 -- ---- lists of births
 -- what holds of all births of jobs holds of those of each
-all_in_jobs : (P : Generated → Type 0) (jobs : List JobView) → All P (births_of jobs) → All (λ j. All P j.births) jobs
+all_in_jobs : (P : BirthView → Type 0) (jobs : List JobView) → All P (births_of jobs) → All (λ j. All P j.births) jobs
 all_in_jobs P [] all = All-nil (λ (j : JobView). All P j.births)
 all_in_jobs P (j ∷ jobs) all = All-cons (λ (x : JobView). All P x.births) j jobs (All-left P j.births (births_of jobs) all) (all_in_jobs P jobs (All-right P j.births (births_of jobs) all))
 
-all_of_jobs : (P : Generated → Type 0) (jobs : List JobView) → All (λ j. All P j.births) jobs → All P (births_of jobs)
+all_of_jobs : (P : BirthView → Type 0) (jobs : List JobView) → All (λ j. All P j.births) jobs → All P (births_of jobs)
 all_of_jobs P [] all = All-nil P
 all_of_jobs P (j ∷ jobs) all = All-append P j.births (births_of jobs) (All-head (λ (x : JobView). All P x.births) j jobs all) (all_of_jobs P jobs (All-tail (λ (x : JobView). All P x.births) j jobs all))
 
@@ -47,58 +48,75 @@ passes_of_jobs P [] all = All-nil P
 passes_of_jobs P (j ∷ jobs) all = All-append P j.passes (passes_of jobs) (All-head (λ (x : JobView). All P x.passes) j jobs all) (passes_of_jobs P jobs (All-tail (λ (x : JobView). All P x.passes) j jobs all))
 
 -- numbers that rise, of births and alone
-pub rising_numbers : (births : List Generated) → AllPairs (λ x y. x.number < y.number) births → AllPairs (λ x y. x < y) (numbers_of births)
+pub rising_numbers : (births : List BirthView) → AllPairs (λ x y. x.node.number < y.node.number) births → AllPairs (λ x y. x < y) (numbers_of births)
 rising_numbers births rising i j d less within =
-    let size : length (numbers_of births) ≡ length births = length-map births (λ (b : Generated). b.number) in
-    let e : Generated = record { number = 0; counters = (0, 0); state = [] } in
-    let at_i : get_or (numbers_of births) i d ≡ (get_or births i e).number = get_or-map (λ (b : Generated). b.number) births i e d (omega arith) in
-    let at_j : get_or (numbers_of births) j d ≡ (get_or births j e).number = get_or-map (λ (b : Generated). b.number) births j e d (omega arith) in
-    let h : (get_or births i e).number < (get_or births j e).number = rising i j e less (omega arith) in
+    let size : length (numbers_of births) ≡ length births = length-map births (λ (b : BirthView). b.node.number) in
+    let e : BirthView = record { node = record { number = 0; counters = (0, 0); state = [] }; fresh = None } in
+    let at_i : get_or (numbers_of births) i d ≡ (get_or births i e).node.number = get_or-map (λ (b : BirthView). b.node.number) births i e d (omega arith) in
+    let at_j : get_or (numbers_of births) j d ≡ (get_or births j e).node.number = get_or-map (λ (b : BirthView). b.node.number) births j e d (omega arith) in
+    let h : (get_or births i e).node.number < (get_or births j e).node.number = rising i j e less (omega arith) in
     omega arith
 
-pub rising_births : (births : List Generated) → AllPairs (λ x y. x < y) (numbers_of births) → AllPairs (λ x y. x.number < y.number) births
-rising_births births rising i j d less within =
-    let size : length (numbers_of births) ≡ length births = length-map births (λ (b : Generated). b.number) in
-    let at_i : get_or (numbers_of births) i 0 ≡ (get_or births i d).number = get_or-map (λ (b : Generated). b.number) births i d 0 (omega arith) in
-    let at_j : get_or (numbers_of births) j 0 ≡ (get_or births j d).number = get_or-map (λ (b : Generated). b.number) births j d 0 (omega arith) in
-    let h : get_or (numbers_of births) i 0 < get_or (numbers_of births) j 0 = rising i j 0 less (omega arith) in
+rising_nodes : (nodes : List Generated) → AllPairs (λ x y. x < y) (map (λ (x : Generated). x.number) nodes) → AllPairs (λ x y. x.number < y.number) nodes
+rising_nodes nodes rising i j d less within =
+    let numbers : List ℕ = map (λ (x : Generated). x.number) nodes in
+    let size : length numbers ≡ length nodes = length-map nodes (λ (x : Generated). x.number) in
+    let at_i : get_or numbers i 0 ≡ (get_or nodes i d).number = get_or-map (λ (x : Generated). x.number) nodes i d 0 (omega arith) in
+    let at_j : get_or numbers j 0 ≡ (get_or nodes j d).number = get_or-map (λ (x : Generated). x.number) nodes j d 0 (omega arith) in
+    let h : get_or numbers i 0 < get_or numbers j 0 = rising i j 0 less (omega arith) in
     omega arith
 
-later_births : (births : List Generated) (last : ℕ) → All (λ n. last < n) (numbers_of births) → All (λ b. last < b.number) births
+numbers_of_nodes : (births : List BirthView) → numbers_of births ≡ map (λ (x : Generated). x.number) (nodes_of births)
+numbers_of_nodes [] = refl
+numbers_of_nodes (b ∷ births) = ap (λ l. b.node.number ∷ l) (numbers_of_nodes births)
+
+later_births : (births : List BirthView) (last : ℕ) → All (λ n. last < n) (numbers_of births) → All (λ b. last < b.node.number) births
 later_births births last later k d within =
-    let size : length (numbers_of births) ≡ length births = length-map births (λ (b : Generated). b.number) in
-    let at : get_or (numbers_of births) k 0 ≡ (get_or births k d).number = get_or-map (λ (b : Generated). b.number) births k d 0 within in
+    let size : length (numbers_of births) ≡ length births = length-map births (λ (b : BirthView). b.node.number) in
+    let at : get_or (numbers_of births) k 0 ≡ (get_or births k d).node.number = get_or-map (λ (b : BirthView). b.node.number) births k d 0 within in
     let h : last < get_or (numbers_of births) k 0 = later k 0 (omega arith) in
     omega arith
+
+-- a number that tables have at a tuple is that of a birth that they stand for
+first_is_known : (before : List Generated) (counters : ℕ × ℕ) (tuple : List ℕ) → AllPairs (λ x y. x.number < y.number) before →
+    first_number before counters tuple < 2 ^ 64 - 1 → (n : ℕ) × (last_number before ≡ Some n) × (first_number before counters tuple ≤ n)
+first_is_known before counters tuple rising some = ⊎_elim
+    (λ (none : first_number before counters tuple ≡ 2 ^ 64 - 1). absurd (omega arith))
+    (λ (found : (b : Generated) × Contains before b × (has_tuple counters tuple b ≡ true) × (b.number ≡ first_number before counters tuple)).
+    let greatest = last_is_greatest before found.1.0 found.0 rising found.1.1 in
+    let number : (get_or before found.1.0 found.0).number ≡ found.0.number = ap (λ (x : Generated). x.number) found.1.2 in
+    let most : first_number before counters tuple ≤ greatest.0 = omega (arith, greatest.2, found.3) in
+    (greatest.0, greatest.1, most))
+    (first_number_is_first before counters tuple).attained
 
 -- ---- dealt
 -- no job is empty where no share is
 pub jobs_some : (shares : List Share) (jobs : List JobView) → All AreRoomy shares → map (λ (j : JobView). j.births) jobs ≡ map births_in_share shares →
     All (λ j. 0 < length j.births) jobs
 jobs_some shares jobs roomy same k d within =
-    let some : All (λ (l : List Generated). 0 < length l) (map births_in_share shares) =
-    All-map (λ (l : List Generated). 0 < length l) births_in_share shares (All-weaker AreRoomy (λ (s : Share). 0 < length s.births.items) (λ s h. h.0) shares roomy) in
-    let each : All (λ (l : List Generated). 0 < length l) (map (λ (j : JobView). j.births) jobs) =
-    subst (λ (l : List (List Generated)). All (λ (x : List Generated). 0 < length x) l) (sym same) some in
-    subst (λ (l : List Generated). 0 < length l) (get_or-map (λ (j : JobView). j.births) jobs k d d.births within)
+    let some : All (λ (l : List BirthView). 0 < length l) (map births_in_share shares) =
+    All-map (λ (l : List BirthView). 0 < length l) births_in_share shares (All-weaker AreRoomy (λ (s : Share). 0 < length s.births.items) (λ s h. h.0) shares roomy) in
+    let each : All (λ (l : List BirthView). 0 < length l) (map (λ (j : JobView). j.births) jobs) =
+    subst (λ (l : List (List BirthView)). All (λ (x : List BirthView). 0 < length x) l) (sym same) some in
+    subst (λ (l : List BirthView). 0 < length l) (get_or-map (λ (j : JobView). j.births) jobs k d d.births within)
     (each k d.births (omega (arith, within, length-map jobs (λ (j : JobView). j.births))))
 
-module _ (t : NoveltyTables) (homes : Homes) (births : List Generated) (shares : List Share) (jobs : List JobView)
+module _ (t : NoveltyTables) (homes : Homes) (births : List BirthView) (shares : List Share) (jobs : List JobView)
     (filled : AreFilled t) (at : IsAtHome t) (given : AreGiven t.homes homes (map births_in_share shares) jobs) (cut : births_in shares ≡ births)
-    (opens : All (λ b. IsOpen t b.counters) births) (sizes : All (λ b. length b.state ≡ t.index.atoms) births) (numbers : All (λ b. b.number < 2 ^ 63) births) where
+    (ready : All (IsReady t) births) where
   abbrev pub dealt : NoveltyTables
   dealt = record t { homes = homes; out = numbers_of births }
 
   pub births_are : births_of jobs ≡ births
   births_are =
-      sym (flat_map-map (λ (l : List Generated). l) (λ (j : JobView). j.births) jobs)
-      ∙ (ap (λ (l : List (List Generated)). flat_map (λ (x : List Generated). x) l) given.births
-      ∙ (flat_map-map (λ (l : List Generated). l) births_in_share shares ∙ cut))
+      sym (flat_map-map (λ (l : List BirthView). l) (λ (j : JobView). j.births) jobs)
+      ∙ (ap (λ (l : List (List BirthView)). flat_map (λ (x : List BirthView). x) l) given.births
+      ∙ (flat_map-map (λ (l : List BirthView). l) births_in_share shares ∙ cut))
 
-  in_jobs : (P : Generated → Type 0) → All P births → All (λ j. All P j.births) jobs
-  in_jobs P all = all_in_jobs P jobs (subst (λ (l : List Generated). All P l) (sym births_are) all)
+  in_jobs : (P : BirthView → Type 0) → All P births → All (λ j. All P j.births) jobs
+  in_jobs P all = all_in_jobs P jobs (subst (λ (l : List BirthView). All P l) (sym births_are) all)
 
-  pass_is : (bs : List Generated) (p : JobPass) → IsGivenOf t.homes p → IsPassOf dealt false bs p
+  pass_is : (bs : List BirthView) (p : JobPass) → IsGivenOf t.homes p → IsPassOf dealt false bs p
   pass_is bs p given_of =
       let next = given.homes.homes p.pair given_of.home given_of.home_is in
       let table : p.pass.table ≡ given_of.home.table = ap (λ (h : PassView). h.table) given_of.given in
@@ -111,8 +129,22 @@ module _ (t : NoveltyTables) (homes : Homes) (births : List Generated) (shares :
         marks = ap (λ (h : PassView). h.marks) given_of.given;
       }
 
-  open_still : (b : Generated) → IsOpen t b.counters → IsOpen dealt b.counters
-  open_still b h = ap (λ ps. is_among ps b.counters) (same_pairs (Lends (passes_of jobs)) t.homes homes given.homes) ∙ h
+  open_still : (counters : ℕ × ℕ) → IsOpen t counters → IsOpen dealt counters
+  open_still counters h = ap (λ ps. is_among ps counters) (same_pairs (Lends (passes_of jobs)) t.homes homes given.homes) ∙ h
+
+  marked_still : (bound : ℕ) (b : BirthView) → AreMarkedBelow t bound b → AreMarkedBelow dealt bound b
+  marked_still bound b marked pair home e same tuple place all old =
+      let before : Was (Lends (passes_of jobs)) t.homes pair home = was (Lends (passes_of jobs)) t.homes homes given.homes pair home e in
+      subst (λ (l : List Mark). first l (place_in t.index tuple) < bound) (sym before.2.marks) (marked pair before.0 before.1 same tuple place all old)
+
+  ready_still : (b : BirthView) → IsReady t b → IsReady dealt b
+  ready_still b h = record {
+    pair = open_still b.node.counters h.pair;
+    size = h.size;
+    number = h.number;
+    counted = h.counted;
+    marked = marked_still (2 ^ 64 - 1) b h.marked;
+  }
 
   pub dealt_out : AreOut dealt false jobs
   dealt_out = record {
@@ -122,13 +154,11 @@ module _ (t : NoveltyTables) (homes : Homes) (births : List Generated) (shares :
         record {
           worked_is = given.unworked k d within;
           passes = All-weaker (IsGivenOf t.homes) (IsPassOf dealt false j.births) (λ p h. pass_is j.births p h) j.passes are.given;
-          covers = λ some. All-weaker (λ (b : Generated). HasWords t.homes b.counters → has_pass j.passes b.counters ≡ true) (λ (b : Generated). has_pass j.passes b.counters ≡ true)
-              (λ b h. h (λ q home same e. let words : home.table.words ≡ length (tuples_of t.index) = filled.words q home e in omega (arith, words, some))) j.births are.covers;
+          covers = λ some. All-weaker (λ (b : BirthView). HasWords t.homes b.node.counters → has_pass j.passes b.node.counters ≡ true) (λ (b : BirthView). has_pass j.passes b.node.counters ≡ true)
+              (λ b h. h (λ q home same e. let words : home.table.words ≡ t.index.len = filled.words q home e in omega (arith, words, some))) j.births are.covers;
           one = are.one;
           only = are.only;
-          opens = All-weaker (λ (b : Generated). IsOpen t b.counters) (λ (b : Generated). IsOpen dealt b.counters) open_still j.births (in_jobs (λ b. IsOpen t b.counters) opens k d within);
-          sizes = in_jobs (λ b. length b.state ≡ t.index.atoms) sizes k d within;
-          numbers = in_jobs (λ b. b.number < 2 ^ 63) numbers k d within;
+          ready = All-weaker (IsReady t) (IsReady dealt) ready_still j.births (in_jobs (IsReady t) ready k d within);
         };
     numbers = ap numbers_of births_are;
     shared = λ pair home e.
@@ -136,49 +166,49 @@ module _ (t : NoveltyTables) (homes : Homes) (births : List Generated) (shares :
         before.2.parts ∙ at.whole pair before.0 before.1;
   }
 
-  pub filled_dealt : AllPairs (λ x y. x.number < y.number) births → IfSome t.last (λ last. All (λ b. last < b.number) births) → AreFilled dealt
+  pub filled_dealt : AllPairs (λ x y. x.node.number < y.node.number) births → IfSome t.last (λ last. All (λ b. last < b.node.number) births) → AreFilled dealt
   filled_dealt rising later = record {
-    width = filled.width;
-    words = each_after (Lends (passes_of jobs)) (λ q home. home.table.words ≡ length (tuples_of t.index)) (λ q home. home.table.words ≡ length (tuples_of t.index)) t.homes homes given.homes
+    apart = filled.apart;
+    words = each_after (Lends (passes_of jobs)) (λ q home. home.table.words ≡ t.index.len) (λ q home. home.table.words ≡ t.index.len) t.homes homes given.homes
         (λ q a b lends words. ap (λ i. i.words) lends.table ∙ words) filled.words;
     within =
         let same : length homes ≡ length t.homes = sym (length-keys_of homes) ∙ (ap (λ (ks : List Pair). length ks) given.homes.pairs ∙ length-keys_of t.homes) in
-        let product : length homes * length (tuples_of t.index) ≡ length t.homes * length (tuples_of t.index) = ap (λ n. n * length (tuples_of t.index)) same in
+        let product : length homes * t.index.len ≡ length t.homes * t.index.len = ap (λ n. n * t.index.len) same in
         omega (arith, filled.within);
     limited = filled.limited;
     rising = rising_numbers births rising;
     later = after t.last later;
   }
     where
-      after : (o : Option ℕ) → IfSome o (λ last. All (λ b. last < b.number) births) → IfSome o (λ last. All (λ n. last < n) (numbers_of births))
+      after : (o : Option ℕ) → IfSome o (λ last. All (λ b. last < b.node.number) births) → IfSome o (λ last. All (λ n. last < n) (numbers_of births))
       after None h = tt
-      after (Some last) h = All-map (λ n. last < n) (λ (b : Generated). b.number) births h
+      after (Some last) h = All-map (λ n. last < n) (λ (b : BirthView). b.node.number) births h
 
   pub stands_dealt : (before : List Generated) → StandsFor t before → StandsFor dealt before
   stands_dealt before stands = record {
     rising = stands.rising;
-    pairs = All-weaker (λ (b : Generated). IsOpen t b.counters) (λ (b : Generated). IsOpen dealt b.counters) open_still before stands.pairs;
+    pairs = All-weaker (λ (b : Generated). IsOpen t b.counters) (λ (b : Generated). IsOpen dealt b.counters) (λ b h. open_still b.counters h) before stands.pairs;
     last = stands.last;
     firsts = λ pair home e tuple h.
         let old : Was (Lends (passes_of jobs)) t.homes pair home = was (Lends (passes_of jobs)) t.homes homes given.homes pair home e in
-        ap (λ (l : List Mark). first l (place_of t.index.atoms tuple)) old.2.marks ∙ stands.firsts pair old.0 old.1 tuple h;
+        ap (λ (l : List Mark). first l (place_in t.index tuple)) old.2.marks ∙ stands.firsts pair old.0 old.1 tuple h;
   }
 
 -- ---- worked
-has_pass-worked : (index : Indexed) (births : List Generated) (passes : List JobPass) (counters : ℕ × ℕ) →
+has_pass-worked : (index : Placing) (births : List BirthView) (passes : List JobPass) (counters : ℕ × ℕ) →
     has_pass (map (worked_pass index births) passes) counters ≡ has_pass passes counters
 has_pass-worked index births [] counters = refl
 has_pass-worked index births (p ∷ passes) counters = ap (λ b. is_same (counters_of p.pair) counters || b) (has_pass-worked index births passes counters)
 
-parts_at-worked : (index : Indexed) (births : List Generated) (pair : Pair) (passes : List JobPass) →
+parts_at-worked : (index : Placing) (births : List BirthView) (pair : Pair) (passes : List JobPass) →
     parts_at pair (map (worked_pass index births) passes) ≡ parts_at pair passes
 parts_at-worked index births pair [] = refl
 parts_at-worked index births pair (p ∷ passes) = ap (λ n. cond (is_pair pair p.pair) (p.pass.parts + n) n) (parts_at-worked index births pair passes)
 
-pub births_of-worked : (index : Indexed) (jobs : List JobView) → births_of (map (worked_job index) jobs) ≡ births_of jobs
+pub births_of-worked : (index : Placing) (jobs : List JobView) → births_of (map (worked_job index) jobs) ≡ births_of jobs
 births_of-worked index jobs = flat_map-map (λ (j : JobView). j.births) (worked_job index) jobs
 
-parts_of-worked : (index : Indexed) (pair : Pair) (jobs : List JobView) → parts_at pair (passes_of (map (worked_job index) jobs)) ≡ parts_at pair (passes_of jobs)
+parts_of-worked : (index : Placing) (pair : Pair) (jobs : List JobView) → parts_at pair (passes_of (map (worked_job index) jobs)) ≡ parts_at pair (passes_of jobs)
 parts_of-worked index pair [] = refl
 parts_of-worked index pair (j ∷ jobs) =
     parts_at-append pair (map (worked_pass index j.births) j.passes) (passes_of (map (worked_job index) jobs))
@@ -190,13 +220,11 @@ worked_is t j is = record {
   worked_is = refl;
   passes = All-map (IsPassOf t true j.births) (worked_pass t.index j.births) j.passes
       (All-weaker (IsPassOf t false j.births) (λ (p : JobPass). IsPassOf t true j.births (worked_pass t.index j.births p)) one j.passes is.passes);
-  covers = λ some. All-weaker (λ (b : Generated). has_pass j.passes b.counters ≡ true) (λ (b : Generated). has_pass (map (worked_pass t.index j.births) j.passes) b.counters ≡ true)
-      (λ b h. has_pass-worked t.index j.births j.passes b.counters ∙ h) j.births (is.covers some);
+  covers = λ some. All-weaker (λ (b : BirthView). has_pass j.passes b.node.counters ≡ true) (λ (b : BirthView). has_pass (map (worked_pass t.index j.births) j.passes) b.node.counters ≡ true)
+      (λ b h. has_pass-worked t.index j.births j.passes b.node.counters ∙ h) j.births (is.covers some);
   one = λ pair. let h : parts_at pair j.passes ≤ 1 = is.one pair in omega (arith, parts_at-worked t.index j.births pair j.passes);
-  only = All-map (λ (p : JobPass). list_any (λ b. is_same b.counters (counters_of p.pair)) j.births ≡ true) (worked_pass t.index j.births) j.passes is.only;
-  opens = is.opens;
-  sizes = is.sizes;
-  numbers = is.numbers;
+  only = All-map (λ (p : JobPass). list_any (λ b. is_same b.node.counters (counters_of p.pair)) j.births ≡ true) (worked_pass t.index j.births) j.passes is.only;
+  ready = is.ready;
 }
   where
     one : (p : JobPass) → IsPassOf t false j.births p → IsPassOf t true j.births (worked_pass t.index j.births p)
@@ -217,6 +245,15 @@ work_is_out t jobs out = record {
   shared = λ pair home e. ap (λ n. home.parts + n) (parts_of-worked t.index pair jobs) ∙ out.shared pair home e;
 }
 
+-- what is asked to work a job
+pub can_mark_job : (t : NoveltyTables) (j : JobView) → IsJobOf t false j → All (CanMark t.homes) j.passes
+can_mark_job t j is = All-weaker (IsPassOf t false j.births) (CanMark t.homes)
+    (λ p h. record { home = h.home; home_is = h.home_is; table = h.table; words = h.words; part = omega (arith, h.part) }) j.passes is.passes
+
+pub can_be_marked : (t : NoveltyTables) (j : JobView) → IsJobOf t false j → All (CanBeMarked t.index) j.births
+can_be_marked t j is = All-weaker (IsReady t) (CanBeMarked t.index)
+    (λ b h. record { tuples = marked_have_places t.index b h.size h.counted; number = h.number }) j.births is.ready
+
 -- ---- collected
 -- what is out of tables can be given back
 pub can_collect : (t : NoveltyTables) (jobs : List JobView) → AreOut t true jobs → All (CanMark t.homes) (passes_of jobs)
@@ -224,10 +261,10 @@ can_collect t jobs out = passes_of_jobs (CanMark t.homes) jobs
     (All-weaker (IsJobOf t true) (λ (j : JobView). All (CanMark t.homes) j.passes)
     (λ j h. All-weaker (IsPassOf t true j.births) (CanMark t.homes) one j.passes h.passes) jobs out.jobs_are)
   where
-    one : {births : List Generated} (p : JobPass) → IsPassOf t true births p → CanMark t.homes p
+    one : {births : List BirthView} (p : JobPass) → IsPassOf t true births p → CanMark t.homes p
     one p h = record { home = h.home; home_is = h.home_is; table = h.table; words = h.words; part = omega (arith, h.part) }
 
-none_passed : (t : NoveltyTables) (births : List Generated) (pair : Pair) (passes : List JobPass) → All (IsPassOf t true births) passes → parts_at pair passes ≡ 0 → passed_at pair passes ≡ []
+none_passed : (t : NoveltyTables) (births : List BirthView) (pair : Pair) (passes : List JobPass) → All (IsPassOf t true births) passes → parts_at pair passes ≡ 0 → passed_at pair passes ≡ []
 none_passed t births pair [] are none = refl
 none_passed t births pair (p ∷ passes) are none = by (is_pair pair p.pair) none (none_passed t births pair passes (All-tail (IsPassOf t true births) p passes are)) where
   part : p.pass.parts ≡ 1
@@ -239,7 +276,7 @@ none_passed t births pair (p ∷ passes) are none = by (is_pair pair p.pair) non
   by false zero rest = rest zero
 
 -- a pair with a pass has one, with the marks of the births
-one_passed : (t : NoveltyTables) (births : List Generated) (pair : Pair) (passes : List JobPass) → All (IsPassOf t true births) passes → parts_at pair passes ≤ 1 →
+one_passed : (t : NoveltyTables) (births : List BirthView) (pair : Pair) (passes : List JobPass) → All (IsPassOf t true births) passes → parts_at pair passes ≤ 1 →
     has_pass passes (counters_of pair) ≡ true → passed_at pair passes ≡ marks_for t.index (counters_of pair) births
 one_passed t births pair [] are one there = absurd (cc)
 one_passed t births pair (p ∷ passes) are one there =
@@ -256,25 +293,25 @@ one_passed t births pair (p ∷ passes) are one there =
           ∙ (append-nil p.pass.marks ∙ (is.marks ∙ ap (λ (q : Pair). marks_for t.index (counters_of q) births) (sym (same_pair pair p.pair here))))
       by false here few rest = rest few (sym (ap (λ b. b || has_pass passes (counters_of pair)) (is_pair-swapped p.pair pair ∙ here)) ∙ there)
 
-none_marked : (index : Indexed) (counters : ℕ × ℕ) (births : List Generated) → All (λ b. is_same b.counters counters ≡ false) births → marks_for index counters births ≡ []
+none_marked : (index : Placing) (counters : ℕ × ℕ) (births : List BirthView) → All (λ b. is_same b.node.counters counters ≡ false) births → marks_for index counters births ≡ []
 none_marked index counters [] none = refl
 none_marked index counters (b ∷ births) none =
-    ap (λ s. cond s (marks_at index.atoms b.number (true_tuples index.width b.state)) [] ++ marks_for index counters births) (All-head (λ (x : Generated). is_same x.counters counters ≡ false) b births none)
-    ∙ none_marked index counters births (All-tail (λ (x : Generated). is_same x.counters counters ≡ false) b births none)
+    ap (λ s. cond s (marks_at index b.node.number (marked_tuples index.width b)) [] ++ marks_for index counters births) (All-head (λ (x : BirthView). is_same x.node.counters counters ≡ false) b births none)
+    ∙ none_marked index counters births (All-tail (λ (x : BirthView). is_same x.node.counters counters ≡ false) b births none)
 
-job_passed : (t : NoveltyTables) (pair : Pair) (j : JobView) → 0 < length (tuples_of t.index) → IsJobOf t true j →
+job_passed : (t : NoveltyTables) (pair : Pair) (j : JobView) → 0 < t.index.len → IsJobOf t true j →
     passed_at pair j.passes ≡ marks_for t.index (counters_of pair) j.births
 job_passed t pair j some is = ⊎_elim
     (λ (there : has_pass j.passes (counters_of pair) ≡ true). one_passed t j.births pair j.passes is.passes (is.one pair) there)
     (λ (none : has_pass j.passes (counters_of pair) ≡ false).
     none_passed t j.births pair j.passes is.passes (no_parts pair j.passes none)
     ∙ sym (none_marked t.index (counters_of pair) j.births
-    (All-weaker (λ (b : Generated). has_pass j.passes b.counters ≡ true) (λ (b : Generated). is_same b.counters (counters_of pair) ≡ false)
-    (λ b h. false_from_ne_true (is_same b.counters (counters_of pair)) (λ same.
-    both_ways (has_pass j.passes (counters_of pair)) none (ap (has_pass j.passes) (sym (same_counters b.counters (counters_of pair) same)) ∙ h))) j.births (is.covers some))))
+    (All-weaker (λ (b : BirthView). has_pass j.passes b.node.counters ≡ true) (λ (b : BirthView). is_same b.node.counters (counters_of pair) ≡ false)
+    (λ b h. false_from_ne_true (is_same b.node.counters (counters_of pair)) (λ same.
+    both_ways (has_pass j.passes (counters_of pair)) none (ap (has_pass j.passes) (sym (same_counters b.node.counters (counters_of pair) same)) ∙ h))) j.births (is.covers some))))
     (cases_Bool (has_pass j.passes (counters_of pair)))
 
-passed_is : (t : NoveltyTables) (pair : Pair) (jobs : List JobView) → 0 < length (tuples_of t.index) → All (IsJobOf t true) jobs →
+passed_is : (t : NoveltyTables) (pair : Pair) (jobs : List JobView) → 0 < t.index.len → All (IsJobOf t true) jobs →
     passed_at pair (passes_of jobs) ≡ marks_for t.index (counters_of pair) (births_of jobs)
 passed_is t pair [] some are = refl
 passed_is t pair (j ∷ jobs) some are =
@@ -284,7 +321,7 @@ passed_is t pair (j ∷ jobs) some are =
 
 module _ (t : NoveltyTables) (homes : Homes) (jobs : List JobView) (filled : AreFilled t) (out : AreOut t true jobs) (become : HomesBecome (Takes (passes_of jobs)) t.homes homes) where
   abbrev pub collected : NoveltyTables
-  collected = record t { homes = homes; last = last_after (births_of jobs) t.last; out = [] }
+  collected = record t { homes = homes; last = last_after (nodes_of (births_of jobs)) t.last; out = [] }
 
   pub home_collected : IsAtHome collected
   home_collected = record {
@@ -296,59 +333,82 @@ module _ (t : NoveltyTables) (homes : Homes) (jobs : List JobView) (filled : Are
 
   pub filled_collected : AreFilled collected
   filled_collected = record {
-    width = filled.width;
-    words = each_after (Takes (passes_of jobs)) (λ q home. home.table.words ≡ length (tuples_of t.index)) (λ q home. home.table.words ≡ length (tuples_of t.index)) t.homes homes become
+    apart = filled.apart;
+    words = each_after (Takes (passes_of jobs)) (λ q home. home.table.words ≡ t.index.len) (λ q home. home.table.words ≡ t.index.len) t.homes homes become
         (λ q a b takes words. ap (λ (h : PassView). h.table.words) takes ∙ words) filled.words;
     within =
         let same : length homes ≡ length t.homes = sym (length-keys_of homes) ∙ (ap (λ (ks : List Pair). length ks) become.pairs ∙ length-keys_of t.homes) in
-        let product : length homes * length (tuples_of t.index) ≡ length t.homes * length (tuples_of t.index) = ap (λ n. n * length (tuples_of t.index)) same in
+        let product : length homes * t.index.len ≡ length t.homes * t.index.len = ap (λ n. n * t.index.len) same in
         omega (arith, filled.within);
     limited = filled.limited;
     rising = λ i j d less within. absurd (omega (arith, within));
-    later = none_later (last_after (births_of jobs) t.last);
+    later = none_later (last_after (nodes_of (births_of jobs)) t.last);
   }
     where
       none_later : (o : Option ℕ) → IfSome o (λ last. All (λ n. last < n) [])
       none_later None = tt
       none_later (Some last) = All-nil (λ n. last < n)
 
-  rising : AllPairs (λ x y. x.number < y.number) (births_of jobs)
-  rising = rising_births (births_of jobs) (subst (λ (l : List ℕ). AllPairs (λ x y. x < y) l) (sym out.numbers) filled.rising)
+  abbrev births : List BirthView
+  births = births_of jobs
 
-  later : (o : Option ℕ) → t.last ≡ o → IfSome o (λ last. All (λ b. last < b.number) (births_of jobs))
+  rising : AllPairs (λ x y. x.number < y.number) (nodes_of births)
+  rising = rising_nodes (nodes_of births)
+      (subst (λ (l : List ℕ). AllPairs (λ x y. x < y) l) (sym out.numbers ∙ numbers_of_nodes births) filled.rising)
+
+  later : (o : Option ℕ) → t.last ≡ o → IfSome o (λ last. All (λ b. last < b.node.number) births)
   later None is = tt
   later (Some last) is =
       let h : IfSome (Some last) (λ last. All (λ n. last < n) t.out) = subst (λ (o : Option ℕ). IfSome o (λ last. All (λ n. last < n) t.out)) is filled.later in
-      later_births (births_of jobs) last (subst (λ (l : List ℕ). All (λ n. last < n) l) (sym out.numbers) h)
+      later_births births last (subst (λ (l : List ℕ). All (λ n. last < n) l) (sym out.numbers) h)
 
-  open_after : (b : Generated) → IsOpen t b.counters → IsOpen collected b.counters
-  open_after b h = ap (λ ps. is_among ps b.counters) (same_pairs (Takes (passes_of jobs)) t.homes homes become) ∙ h
+  ready : All (IsReady t) births
+  ready = all_of_jobs (IsReady t) jobs (All-weaker (IsJobOf t true) (λ (j : JobView). All (IsReady t) j.births) (λ j h. h.ready) jobs out.jobs_are)
 
-  pub stands_collected : (before : List Generated) → StandsFor t before → StandsFor collected (before ++ births_of jobs)
+  open_after : (counters : ℕ × ℕ) → IsOpen t counters → IsOpen collected counters
+  open_after counters h = ap (λ ps. is_among ps counters) (same_pairs (Takes (passes_of jobs)) t.homes homes become) ∙ h
+
+  can : All (CanCount t.index filled.apart) births
+  can = All-weaker (IsReady t) (CanCount t.index filled.apart)
+      (λ b h. record { size = h.size; counted = h.counted; low = let less : b.node.number < 2 ^ 63 = h.number in omega arith }) births ready
+
+  -- where a birth has a tuple without a new atom, a birth before it had the tuple
+  no_earlier : (before : List Generated) → StandsFor t before → (pair : Pair) (home : PassView) → home_of t.homes pair ≡ Some home → (tuple : List ℕ) → HasPlace t.index tuple →
+      All (IsNoEarlier t.index filled.apart (counters_of pair) tuple (first home.marks (place_in t.index tuple))) births
+  no_earlier before stands pair home found tuple place k d within same all old =
+      let b : BirthView = get_or births k d in
+      let is : IsReady t b = ready k d within in
+      let marked : first home.marks (place_in t.index tuple) < 2 ^ 64 - 1 = is.marked pair home found (sym (same_counters b.node.counters (counters_of pair) same)) tuple place all old in
+      let word : first home.marks (place_in t.index tuple) ≡ first_number before (counters_of pair) tuple = stands.firsts pair home found tuple place in
+      let known = first_is_known before (counters_of pair) tuple stands.rising (omega arith) in
+      let after : IfSome (Some known.0) (λ last. All (λ b. last < b.node.number) births) = later (Some known.0) (stands.last ∙ known.1) in
+      let less : known.0 < b.node.number = after k d within in
+      omega (arith, known.2)
+
+  pub stands_collected : (before : List Generated) → StandsFor t before → StandsFor collected (before ++ nodes_of births)
   stands_collected before stands = record {
-    rising = pairs_append before (births_of jobs) stands.rising rising (λ i j d within inside.
-        let greatest = last_is_greatest before i d stands.rising within in
-        let low : IfSome (Some greatest.0) (λ last. All (λ b. last < b.number) (births_of jobs)) = later (Some greatest.0) (stands.last ∙ greatest.1) in
-        let h : greatest.0 < (get_or (births_of jobs) j d).number = low j d inside in
+    rising = pairs_append before (nodes_of births) stands.rising rising (λ i j d less inside.
+        let greatest = last_is_greatest before i d stands.rising less in
+        let low : IfSome (Some greatest.0) (λ last. All (λ b. last < b.node.number) births) = later (Some greatest.0) (stands.last ∙ greatest.1) in
+        let h : greatest.0 < (get_or (nodes_of births) j d).number = All-map (λ (x : Generated). greatest.0 < x.number) (λ (b : BirthView). b.node) births low j d inside in
         omega (arith, greatest.2));
-    pairs = All-append (λ (b : Generated). IsOpen collected b.counters) before (births_of jobs)
-        (All-weaker (λ (b : Generated). IsOpen t b.counters) (λ (b : Generated). IsOpen collected b.counters) open_after before stands.pairs)
-        (all_of_jobs (λ b. IsOpen collected b.counters) jobs
-        (All-weaker (IsJobOf t true) (λ (j : JobView). All (λ b. IsOpen collected b.counters) j.births)
-        (λ j h. All-weaker (λ (b : Generated). IsOpen t b.counters) (λ (b : Generated). IsOpen collected b.counters) open_after j.births h.opens) jobs out.jobs_are));
-    last = ap (last_after (births_of jobs)) stands.last ∙ sym (last_number-append before (births_of jobs));
-    firsts = λ pair home e tuple h.
+    pairs = All-append (λ (b : Generated). IsOpen collected b.counters) before (nodes_of births)
+        (All-weaker (λ (b : Generated). IsOpen t b.counters) (λ (b : Generated). IsOpen collected b.counters) (λ b h. open_after b.counters h) before stands.pairs)
+        (All-map (λ (b : Generated). IsOpen collected b.counters) (λ (b : BirthView). b.node) births
+        (All-weaker (IsReady t) (λ (b : BirthView). IsOpen collected b.node.counters) (λ b h. open_after b.node.counters h.pair) births ready));
+    last = ap (last_after (nodes_of births)) stands.last ∙ sym (last_number-append before (nodes_of births));
+    firsts = λ pair home e tuple place.
         let old : Was (Takes (passes_of jobs)) t.homes pair home = was (Takes (passes_of jobs)) t.homes homes become pair home e in
-        let place : ℕ = place_of t.index.atoms tuple in
-        let below : place < length (tuples_of t.index) = (are_numbered t.index.atoms t.index.width filled.width.0 filled.width.1).below tuple h in
-        let word : first old.0.marks place ≡ first_number before (counters_of pair) tuple = stands.firsts pair old.0 old.1 tuple h in
-        let new : first (passed_at pair (passes_of jobs)) place ≡ first_number (births_of jobs) (counters_of pair) tuple =
-        ap (λ (l : List Mark). first l place) (passed_is t pair jobs (omega arith) out.jobs_are)
-        ∙ first_of_births t.index (births_of jobs) (counters_of pair) tuple filled.width.0 filled.width.1
-        (all_of_jobs (λ b. length b.state ≡ t.index.atoms) jobs (All-weaker (IsJobOf t true) (λ (j : JobView). All (λ b. length b.state ≡ t.index.atoms) j.births) (λ j h. h.sizes) jobs out.jobs_are))
-        (all_of_jobs (λ b. b.number ≤ 2 ^ 64 - 1) jobs (All-weaker (IsJobOf t true) (λ (j : JobView). All (λ b. b.number ≤ 2 ^ 64 - 1) j.births)
-        (λ j h. All-weaker (λ (b : Generated). b.number < 2 ^ 63) (λ (b : Generated). b.number ≤ 2 ^ 64 - 1) (λ b n. omega (arith, n)) j.births h.numbers) jobs out.jobs_are)) h in
-        ap (λ (x : PassView). first x.marks place) old.2
-        ∙ (first_append old.0.marks (passed_at pair (passes_of jobs)) place
-        ∙ ((λ i. min (word i) (new i)) ∙ sym (first_number-append before (births_of jobs) (counters_of pair) tuple)));
+        let at : ℕ = place_in t.index tuple in
+        let below : at < t.index.len = filled.apart.below tuple place in
+        let word : first old.0.marks at ≡ first_number before (counters_of pair) tuple = stands.firsts pair old.0 old.1 tuple place in
+        let passed : first (passed_at pair (passes_of jobs)) at ≡ first (marks_for t.index (counters_of pair) births) at =
+        ap (λ (l : List Mark). first l at) (passed_is t pair jobs (omega arith) out.jobs_are) in
+        let new : min (first old.0.marks at) (first (marks_for t.index (counters_of pair) births) at) ≡ min (first old.0.marks at) (first_number (nodes_of births) (counters_of pair) tuple) =
+        first_of_births t.index filled.apart births (counters_of pair) tuple (first old.0.marks at) place can (no_earlier before stands pair old.0 old.1 tuple place) in
+        ap (λ (x : PassView). first x.marks at) old.2
+        ∙ (first_append old.0.marks (passed_at pair (passes_of jobs)) at
+        ∙ (ap (λ n. min (first old.0.marks at) n) passed
+        ∙ (new
+        ∙ (ap (λ n. min n (first_number (nodes_of births) (counters_of pair) tuple)) word ∙ sym (first_number-append before (nodes_of births) (counters_of pair) tuple)))));
   }

@@ -2,35 +2,34 @@
 use Rattle.std.specs.Prelude.{◌≡◌, ℕ, ◌+◌, ◌^◌, ◌<◌, ◌≤◌, Bool, true, false, List, [], ◌∷◌, ◌++◌, length, map, All, Some, if◌then◌else◌}
 use Rattle.std.specs.List.{flat_map, list_any}
 use Rattle.std.specs.Map.{keys_of}
-use Rattle.wp_task.specs.Novelty.{Generated}
-use Rattle.wp_tuples.specs.TuplePlaces.{Indexed, tuples_of}
+use Rattle.wp_tuples.specs.Placing.{Placing}
 use Rattle.wp_arrive.specs.declared.view.Mark.{Mark}
 use Rattle.wp_arrive.specs.Seen.{PassView, seen}
 use Rattle.wp_novel.specs.declared.birth.Pair.{Pair}
 use Rattle.wp_novel.specs.declared.job.JobPass.{JobPass}
+use Rattle.wp_novel.specs.Births.{BirthView, numbers_of}
+use Rattle.wp_novel.specs.MarkedTuples.{AreCounted}
 use Rattle.wp_novel.specs.NoveltyTables.{NoveltyTables, counters_of, is_same, is_pair, home_of, EachHome, IsOpen}
+use Rattle.wp_novel.specs.StandsFor.{AreMarked}
 use Rattle.wp_novel.specs.Marks.{marks_for}
 
 pub record JobView : Type 0 where
-  pub births : List Generated
+  pub births : List BirthView
   pub passes : List JobPass  -- one for each pair of the births
   pub worked : Bool
 
 -- ---- work
 -- the pass, after it marked those of the births that have its pair
-abbrev pub worked_pass : Indexed → List Generated → JobPass → JobPass
-worked_pass index births p =
-    record { pair = p.pair; pass = seen p.pass.table (p.pass.marks ++ marks_for index (counters_of p.pair) births) p.pass.parts }
+abbrev pub worked_pass : Placing → List BirthView → JobPass → JobPass
+worked_pass places births p =
+    record { pair = p.pair; pass = seen p.pass.table (p.pass.marks ++ marks_for places (counters_of p.pair) births) p.pass.parts }
 
-abbrev pub worked_job : Indexed → JobView → JobView
-worked_job index j = record { births = j.births; passes = map (worked_pass index j.births) j.passes; worked = true }
+abbrev pub worked_job : Placing → JobView → JobView
+worked_job places j = record { births = j.births; passes = map (worked_pass places j.births) j.passes; worked = true }
 
 -- ---- many jobs
-abbrev pub births_of : List JobView → List Generated
+abbrev pub births_of : List JobView → List BirthView
 births_of jobs = flat_map (λ j. j.births) jobs
-
-abbrev pub numbers_of : List Generated → List ℕ
-numbers_of births = map (λ b. b.number) births
 
 abbrev pub passes_of : List JobView → List JobPass
 passes_of jobs = flat_map (λ j. j.passes) jobs
@@ -45,8 +44,16 @@ passed_at pair [] = []
 passed_at pair (p ∷ passes) = if is_pair pair p.pair then p.pass.marks ++ passed_at pair passes else passed_at pair passes
 
 -- ---- jobs of tables
+-- the birth can be marked: its pair is open, and the tuples of its state that have no new atom were marked
+pub record IsReady (t : NoveltyTables) (b : BirthView) : Type 0 where
+  pub pair : IsOpen t b.node.counters
+  pub size : length b.node.state ≡ t.index.atoms
+  pub number : b.node.number < 2 ^ 63
+  pub counted : AreCounted t.index b.node.state
+  pub marked : AreMarked t b
+
 -- the pass is of its pair's table and has one part; it has the marks that its job made, and none before the job is worked
-pub record IsPassOf (t : NoveltyTables) (worked : Bool) (births : List Generated) (p : JobPass) : Type 0 where
+pub record IsPassOf (t : NoveltyTables) (worked : Bool) (births : List BirthView) (p : JobPass) : Type 0 where
   pub home : PassView
   pub home_is : home_of t.homes p.pair ≡ Some home
   pub table : p.pass.table ≡ home.table
@@ -61,12 +68,10 @@ has_pass passes counters = list_any (λ p. is_same (counters_of p.pair) counters
 pub record IsJobOf (t : NoveltyTables) (worked : Bool) (j : JobView) : Type 0 where
   pub worked_is : j.worked ≡ worked
   pub passes : All (IsPassOf t worked j.births) j.passes
-  pub covers : 0 < length (tuples_of t.index) → All (λ b. has_pass j.passes b.counters ≡ true) j.births
+  pub covers : 0 < t.index.len → All (λ b. has_pass j.passes b.node.counters ≡ true) j.births
   pub one : (pair : Pair) → parts_at pair j.passes ≤ 1
-  pub only : All (λ p. list_any (λ b. is_same b.counters (counters_of p.pair)) j.births ≡ true) j.passes
-  pub opens : All (λ b. IsOpen t b.counters) j.births
-  pub sizes : All (λ b. length b.state ≡ t.index.atoms) j.births
-  pub numbers : All (λ b. b.number < 2 ^ 63) j.births
+  pub only : All (λ p. list_any (λ b. is_same b.node.counters (counters_of p.pair)) j.births ≡ true) j.passes
+  pub ready : All (IsReady t) j.births
 
 -- all parts of each pair are at home and in the passes
 abbrev pub AreShared : List JobPass → List (Pair × PassView) → Type 0

@@ -1,4 +1,5 @@
-pub mod TrueTuples
+pub mod Births
+pub mod MarkedTuples
 pub mod NoveltyTables
 pub mod Homes
 pub mod StandsFor

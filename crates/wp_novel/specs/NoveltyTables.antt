@@ -3,16 +3,27 @@
 use Rattle.std.specs.Prelude.{◌≡◌, ◌==◌, ◌&&◌, ℕ, ◌*◌, ◌^◌, ◌<◌, ◌≤◌, Bool, true, List, [], ◌∷◌, ◌++◌, length, map, All, Option, Some, IfSome}
 use Rattle.std.specs.List.{list_any, AllPairs}
 use Rattle.std.specs.Map.{lookup, keys_of}
-use Rattle.wp_tuples.specs.TuplePlaces.{Indexed, tuples_of}
+use Rattle.wp_tuples.specs.Placing.{Placing, AreApart}
 use Rattle.wp_arrive.specs.Seen.{TableId, PassView, seen}
 use Rattle.wp_novel.specs.declared.birth.Pair.{Pair}
 
 pub record NoveltyTables : Type 0 where
-  pub index : Indexed
+  pub index : Placing
   pub limit : ℕ  -- how many words there may be
   pub homes : List (Pair × PassView)  -- the open pairs, each with its pass at home
   pub last : Option ℕ  -- the greatest number that was collected
   pub out : List ℕ  -- the numbers of the births that are in jobs
+
+-- tables over an index of a type P, and what they are by the meaning of such an index
+pub record TablesOver (P : Type 0) : Type 0 where
+  pub index : P
+  pub limit : ℕ
+  pub homes : List (Pair × PassView)
+  pub last : Option ℕ
+  pub out : List ℕ
+
+abbrev pub placed : {P : Type 0} → (P → Placing) → TablesOver P → NoveltyTables
+placed places t = record { index = places t.index; limit = t.limit; homes = t.homes; last = t.last; out = t.out }
 
 -- ---- pairs of counters
 abbrev pub counters_of : Pair → ℕ × ℕ
@@ -63,9 +74,9 @@ pub record IsAtHome (t : NoveltyTables) : Type 0 where
 -- each open pair has a word for each tuple, and all these words are within the limit; the numbers that are out rise, and are greater
 -- than those that were collected
 pub record AreFilled (t : NoveltyTables) : Type 0 where
-  pub width : (1 ≤ t.index.width) × (t.index.width ≤ 2)
-  pub words : EachHome (λ pair home. home.table.words ≡ length (tuples_of t.index)) t.homes
-  pub within : length t.homes * length (tuples_of t.index) ≤ t.limit
+  pub apart : AreApart t.index
+  pub words : EachHome (λ pair home. home.table.words ≡ t.index.len) t.homes
+  pub within : length t.homes * t.index.len ≤ t.limit
   pub limited : t.limit ≤ 536870912
   pub rising : AllPairs (λ x y. x < y) t.out
   pub later : IfSome t.last (λ last. All (λ n. last < n) t.out)

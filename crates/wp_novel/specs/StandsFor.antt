@@ -2,13 +2,14 @@
 -- The measure is that of Lipovetzky and Geffner (AAAI 2017), for the counters (#g, #r). A birth is a generated node that is no repeat.
 -- Where the first arrival at a tuple's place is the least number of a birth that has the tuple, the tuple is new at a birth exactly
 -- where that number is not below the birth's own.
-use Rattle.std.specs.Prelude.{◌≡◌, ◌&&◌, ℕ, ◌-◌, ◌^◌, ◌<◌, ◌≤◌, ◌⊎◌, min, Bool, true, List, [], ◌∷◌, length, All, Contains, Option, option_map, slice_get, if◌then◌else◌}
-use Rattle.std.specs.List.{list_all, AllPairs}
+use Rattle.std.specs.Prelude.{◌≡◌, ◌&&◌, ℕ, ◌-◌, ◌^◌, ◌<◌, ◌≤◌, ◌⊎◌, min, Bool, true, false, List, [], ◌∷◌, length, All, Contains, Option, None, option_map, slice_get, if◌then◌else◌}
+use Rattle.std.specs.List.{list_all, list_any, AllPairs}
 use Rattle.std.specs.Option.{option_or}
 use Rattle.wp_task.specs.Set.{has}
 use Rattle.wp_task.specs.Novelty.{Generated}
-use Rattle.wp_tuples.specs.TuplePlaces.{place_of, tuples_of}
+use Rattle.wp_tuples.specs.Placing.{HasPlace, place_in}
 use Rattle.wp_arrive.specs.FirstArrival.{first}
+use Rattle.wp_novel.specs.Births.{BirthView, is_new}
 use Rattle.wp_novel.specs.NoveltyTables.{NoveltyTables, counters_of, is_same, EachHome, IsOpen}
 
 -- whether the birth has the counters, and its state the tuple
@@ -32,7 +33,7 @@ last_after births before = option_or (last_number births) before
 -- the first arrival at the place of each tuple is the number of the first birth that has it
 abbrev pub AreFirstNumbers : NoveltyTables → List Generated → Type 0
 AreFirstNumbers t births = EachHome (λ pair home.
-    (tuple : List ℕ) → Contains (tuples_of t.index) tuple → first home.marks (place_of t.index.atoms tuple) ≡ first_number births (counters_of pair) tuple) t.homes
+    (tuple : List ℕ) → HasPlace t.index tuple → first home.marks (place_in t.index tuple) ≡ first_number births (counters_of pair) tuple) t.homes
 
 pub record StandsFor (t : NoveltyTables) (births : List Generated) : Type 0 where
   pub rising : AllPairs (λ x y. x.number < y.number) births
@@ -45,3 +46,24 @@ pub record StandsFor (t : NoveltyTables) (births : List Generated) : Type 0 wher
 pub record IsFirstNumber (births : List Generated) (counters : ℕ × ℕ) (tuple : List ℕ) (number : ℕ) : Type 0 where
   pub least : (b : Generated) → Contains births b → has_tuple counters tuple b ≡ true → number ≤ b.number
   pub attained : (number ≡ 2 ^ 64 - 1) ⊎ ((b : Generated) × Contains births b × (has_tuple counters tuple b ≡ true) × (b.number ≡ number))
+
+-- ---- tuples without a new atom
+-- each tuple of the birth's state that has no new atom was marked below the bound, in the table of its pair
+abbrev pub AreMarkedBelow : NoveltyTables → ℕ → BirthView → Type 0
+AreMarkedBelow t bound b = EachHome (λ pair home. counters_of pair ≡ b.node.counters → (tuple : List ℕ) → HasPlace t.index tuple →
+    list_all (has b.node.state) tuple ≡ true → list_any (is_new b.fresh) tuple ≡ false → first home.marks (place_in t.index tuple) < bound) t.homes
+
+-- each of them was marked
+abbrev pub AreMarked : NoveltyTables → BirthView → Type 0
+AreMarked t b = AreMarkedBelow t (2 ^ 64 - 1) b
+
+-- where tables stand for births, one of which has the birth's pair and all its atoms but the new ones, they were marked by that one at
+-- the latest
+abbrev pub SharedTuplesAreMarked : Type 0
+SharedTuplesAreMarked = (t : NoveltyTables) (births : List Generated) (x : Generated) (b : BirthView) (bound : ℕ) → StandsFor t births → Contains births x →
+    x.counters ≡ b.node.counters → ((p : ℕ) → has b.node.state p ≡ true → is_new b.fresh p ≡ false → has x.state p ≡ true) → x.number < bound →
+    AreMarkedBelow t bound b
+
+-- where every atom is new, there are none
+abbrev pub NoTupleIsOld : Type 0
+NoTupleIsOld = (t : NoveltyTables) (b : BirthView) (bound : ℕ) → b.fresh ≡ None → AreMarkedBelow t bound b

@@ -2,7 +2,8 @@
 ghost use Rattle.std.specs.Prelude.{◌≡◌, ◌+◌, ◌<◌, ◌≤◌, [], ◌∷◌, ◌++◌, All, length, map, false, IfOk, IsSome};
 ghost use Rattle.std.specs.Vec.{vec_capacity, vec_len};
 ghost use Rattle.wp_novel.specs.NoveltyTables.{counters_of, home_of, EachHome};
-ghost use Rattle.wp_novel.specs.Jobs.{HomesBecome, Lends, Takes, numbers_of, births_of, passes_of, has_pass};
+ghost use Rattle.wp_novel.specs.Births.{numbers_of};
+ghost use Rattle.wp_novel.specs.Jobs.{HomesBecome, Lends, Takes, births_of, passes_of, has_pass};
 ghost use Rattle.wp_novel.specs.Dealing.{births_in, AreRoomy, CanLend, CanMark, ArePassesFor, TakesPass, AreGiven};
 
 use crate::birth::{Birth, Pair};

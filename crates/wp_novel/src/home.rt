@@ -1,12 +1,11 @@
 //! What is at home of an open pair: its words, and the pass that has all that was marked in them.
-ghost use Rattle.std.specs.Prelude.{◌≡◌, ℕ, ◌+◌, ◌-◌, ◌^◌, ◌<◌, ◌≤◌, true, false, [], ◌++◌, List, Bool, All, length, slice_index, None, IfOk, IfSome, IfNone};
-ghost use Rattle.wp_task.specs.Set.{atoms_in, AreAtoms};
-ghost use Rattle.wp_task.specs.Novelty.{Generated};
-ghost use Rattle.wp_tuples.specs.TuplePlaces.{tuples_of};
+ghost use Rattle.std.specs.Prelude.{◌≡◌, ◌+◌, ◌-◌, ◌^◌, ◌<◌, ◌≤◌, [], ◌++◌, All, length, None, IfOk, IfSome, IfNone};
 ghost use Rattle.wp_arrive.specs.FirstArrival.{first};
 ghost use Rattle.wp_arrive.specs.Seen.{seen};
 ghost use Rattle.wp_novel.specs.NoveltyTables.{counters_of, no_words, bare};
+ghost use Rattle.wp_novel.specs.MarkedTuples.{AreCounted};
 ghost use Rattle.wp_novel.specs.Marks.{marks_for, IsLeastSize};
+ghost use Rattle.wp_novel.specs.Dealing.{CanBeMarked, IsEarlierAtOld};
 
 use crate::birth::{Birth, Pair};
 use crate::first::least_size;
@@ -14,7 +13,7 @@ use crate::marks::mark_births;
 use std::alloc::{AllocError, Global};
 use std::marker::Model;
 use wp_arrive::{Arrivals, Pass};
-use wp_tuples::TupleIndex;
+use wp_tuples::Places;
 
 /// Words, and their pass.
 #[derive(Drop)]
@@ -37,30 +36,13 @@ impl Model for Shared {
 impl Shared {
     /// The first arrival at a place.
     #[inline(always)]
-    fn look(&mut self, place: u64) -> u64
+    pub(crate) fn look(&mut self, place: u64) -> u64
         requires whole { self.old.parts ≡ 2 ^ 32 }
         requires place { place < self.old.table.words }
         ensures first { result ≡ first self.old.marks place }
         ensures same { self.new ≡ self.old }
     {
         self.arrivals.look(&mut self.pass, place)
-    }
-
-    /// Whether no lesser number was marked at one of the places from `row` on that have the numbers of these atoms.
-    pub(crate) fn has_late(&mut self, row: u64, atoms: &[u32], number: u64) -> bool
-        requires whole { self.old.parts ≡ 2 ^ 32 }
-        requires row { row < 2 ^ 32 }
-        requires within { All (λ p. row + p < self.old.table.words) atoms.now }
-        ensures some { result ≡ true → (k : ℕ) × (k < length atoms.now) × (number ≤ first self.old.marks (row + slice_index atoms.now k)) }
-        ensures none { result ≡ false → All (λ p. first self.old.marks (row + p) < number) atoms.now }
-        ensures same { self.new ≡ self.old }
-    {
-        for p in atoms {
-            if self.look(row + u64::from(*p)) >= number {
-                return true;
-            }
-        }
-        false
     }
 }
 
@@ -121,14 +103,13 @@ impl Home {
     }
 
     /// Marks those of the births that have the pair, by a pass of its table.
-    pub(crate) fn mark(&self, index: &TupleIndex, births: &[Birth], pair: Pair, pass: &mut Pass)
+    pub(crate) fn mark<P: Places>(&self, index: &P, births: &[Birth], pair: Pair, pass: &mut Pass)
         requires table { pass.old.table ≡ self.now.table }
-        requires words { self.now.table.words ≡ length (tuples_of index.now) }
+        requires words { self.now.table.words ≡ (P.places index.now).len }
         requires some { 0 < self.now.table.words }
         requires part { 0 < pass.old.parts }
-        requires sizes { All (λ b. length b.state ≡ index.now.atoms) births.now }
-        requires numbers { All (λ b. b.number < 2 ^ 63) births.now }
-        ensures { pass.new ≡ seen pass.old.table (pass.old.marks ++ marks_for index.now (counters_of pair) births.now) pass.old.parts }
+        requires births { All (CanBeMarked (P.places index.now)) births.now }
+        ensures { pass.new ≡ seen pass.old.table (pass.old.marks ++ marks_for (P.places index.now) (counters_of pair) births.now) pass.old.parts }
     {
         match &self.shared {
             Some(shared) => mark_births(&shared.arrivals, index, births, pair, pass),
@@ -136,17 +117,20 @@ impl Home {
         }
     }
 
-    /// The size of the smallest tuple of these atoms that no lesser number was marked at, or one more than the width.
-    pub(crate) fn least_size(&mut self, index: &TupleIndex, atoms: &[u32], number: u64) -> u8
+    /// The size of the smallest tuple of the birth that no lesser number was marked at, or one more than the width, where those of them
+    /// that have no new atom were marked by lesser numbers.
+    pub(crate) fn least_size<P: Places>(&mut self, index: &P, birth: &Birth) -> u8
         requires whole { self.old.parts ≡ 2 ^ 32 }
-        requires words { self.old.table.words ≡ length (tuples_of index.now) }
-        requires atoms { AreAtoms index.now.atoms atoms.now }
-        ensures size { (state : List Bool) → atoms.now ≡ atoms_in state → length state ≡ index.now.atoms → IsLeastSize index.now state number self.old.marks result }
-        ensures word { number < 2 ^ 64 }
+        requires words { self.old.table.words ≡ (P.places index.now).len }
+        requires size { length birth.now.node.state ≡ (P.places index.now).atoms }
+        requires counted { AreCounted (P.places index.now) birth.now.node.state }
+        ensures size { IsEarlierAtOld (P.places index.now) self.old.marks birth.now → IsLeastSize (P.places index.now) birth.now.node.state birth.now.node.number self.old.marks result }
+        ensures word { birth.now.node.number < 2 ^ 64 }
         ensures same { self.new ≡ self.old }
     {
+        let number = birth.number();
         match &mut self.shared {
-            Some(shared) => least_size(shared, index, atoms, number),
+            Some(shared) => least_size(shared, index, birth.old_atoms(), birth.new_atoms(), number),
             None => index.width() + 1,
         }
     }

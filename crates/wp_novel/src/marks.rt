@@ -1,36 +1,43 @@
-//! Marks: a number goes to the place of each tuple of a state.
-ghost use Rattle.std.specs.Prelude.{◌≡◌, ℕ, ◌+◌, ◌-◌, ◌^◌, ◌<◌, [], ◌∷◌, ◌++◌, List, Bool, All, length, map, slice_index, true};
-ghost use Rattle.wp_task.specs.Set.{atoms_in, AreAtoms};
-ghost use Rattle.wp_task.specs.Novelty.{Generated};
-ghost use Rattle.wp_tuples.specs.TuplePlaces.{tuples_of};
-ghost use Rattle.wp_arrive.specs.FirstArrival.{mark};
+//! Marks: a number goes to the place of each tuple of a state that has a new atom.
+ghost use Rattle.std.specs.Prelude.{◌≡◌, ◌+◌, ◌-◌, ◌^◌, ◌<◌, [], ◌∷◌, ◌++◌, All, length, map};
+ghost use Rattle.wp_tuples.specs.Placing.{HasPlace};
 ghost use Rattle.wp_arrive.specs.Rule.{latest};
 ghost use Rattle.wp_arrive.specs.Seen.{seen};
 ghost use Rattle.wp_novel.specs.NoveltyTables.{counters_of, EachHome};
-ghost use Rattle.wp_novel.specs.Jobs.{worked_pass};
-ghost use Rattle.wp_novel.specs.Dealing.{CanMark};
+ghost use Rattle.wp_novel.specs.MarkedTuples.{pair_of, pairs_after, tuples_with_new};
 ghost use Rattle.wp_novel.specs.Marks.{marks_at, birth_marks, marks_for};
-ghost use Rattle.wp_novel.specs.TrueTuples.{tuples_with, tuples_after};
+ghost use Rattle.wp_novel.specs.Jobs.{worked_pass, worked_job};
+ghost use Rattle.wp_novel.specs.Dealing.{CanMark, CanBeMarked};
 
 use crate::birth::{Birth, Pair};
 use crate::home::Home;
-use crate::job::JobPass;
+use crate::job::{JobPass, MarkJob};
+use crate::places::place_of_pair;
 use indexmap::IndexMap;
 use wp_arrive::{Arrivals, Pass};
-use wp_tuples::TupleIndex;
+use wp_tuples::Places;
 
-/// Marks the births, each by the pass of its pair.
-pub(crate) fn mark_passes(
+/// Works a job: marks its births, each by the pass of its pair.
+pub(crate) fn mark_job<P: Places>(homes: &IndexMap<Pair, Home>, index: &P, job: &mut MarkJob)
+    requires homes { EachHome (λ pair home. home.table.words ≡ (P.places index.now).len) homes.now.entries }
+    requires passes { All (CanMark homes.now.entries) job.old.passes }
+    requires births { All (CanBeMarked (P.places index.now)) job.old.births }
+    ensures { job.new ≡ worked_job (P.places index.now) job.old }
+{
+    mark_passes(homes, index, &job.births, &mut job.passes);
+    job.worked = true;
+}
+
+fn mark_passes<P: Places>(
     homes: &IndexMap<Pair, Home>,
-    index: &TupleIndex,
+    index: &P,
     births: &[Birth],
     passes: &mut Vec<JobPass>,
 )
-    requires homes { EachHome (λ pair home. home.table.words ≡ length (tuples_of index.now)) homes.now.entries }
+    requires homes { EachHome (λ pair home. home.table.words ≡ (P.places index.now).len) homes.now.entries }
     requires passes { All (CanMark homes.now.entries) passes.old.items }
-    requires sizes { All (λ b. length b.state ≡ index.now.atoms) births.now }
-    requires numbers { All (λ b. b.number < 2 ^ 63) births.now }
-    ensures { passes.new.items ≡ map (worked_pass index.now births.now) passes.old.items }
+    requires births { All (CanBeMarked (P.places index.now)) births.now }
+    ensures { passes.new.items ≡ map (worked_pass (P.places index.now) births.now) passes.old.items }
 {
     for place in 0..passes.len() {
         mark_pass(homes, index, births, &mut passes[place]);
@@ -38,17 +45,16 @@ pub(crate) fn mark_passes(
 }
 
 /// Marks those of the births that have the pair of the pass.
-fn mark_pass(
+fn mark_pass<P: Places>(
     homes: &IndexMap<Pair, Home>,
-    index: &TupleIndex,
+    index: &P,
     births: &[Birth],
     job_pass: &mut JobPass,
 )
-    requires homes { EachHome (λ pair home. home.table.words ≡ length (tuples_of index.now)) homes.now.entries }
+    requires homes { EachHome (λ pair home. home.table.words ≡ (P.places index.now).len) homes.now.entries }
     requires pass { CanMark homes.now.entries job_pass.old }
-    requires sizes { All (λ b. length b.state ≡ index.now.atoms) births.now }
-    requires numbers { All (λ b. b.number < 2 ^ 63) births.now }
-    ensures { job_pass.new ≡ worked_pass index.now births.now job_pass.old }
+    requires births { All (CanBeMarked (P.places index.now)) births.now }
+    ensures { job_pass.new ≡ worked_pass (P.places index.now) births.now job_pass.old }
 {
     let pair = job_pass.pair;
     match homes.get(&pair) {
@@ -58,19 +64,18 @@ fn mark_pass(
 }
 
 /// Marks those of the births that have the pair.
-pub(crate) fn mark_births(
+pub(crate) fn mark_births<P: Places>(
     arrivals: &Arrivals,
-    index: &TupleIndex,
+    index: &P,
     births: &[Birth],
     pair: Pair,
     pass: &mut Pass,
 )
     requires table { pass.old.table ≡ arrivals.now }
-    requires words { arrivals.now.words ≡ length (tuples_of index.now) }
+    requires words { arrivals.now.words ≡ (P.places index.now).len }
     requires part { 0 < pass.old.parts }
-    requires sizes { All (λ b. length b.state ≡ index.now.atoms) births.now }
-    requires numbers { All (λ b. b.number < 2 ^ 63) births.now }
-    ensures { pass.new ≡ seen pass.old.table (pass.old.marks ++ marks_for index.now (counters_of pair) births.now) pass.old.parts }
+    requires births { All (CanBeMarked (P.places index.now)) births.now }
+    ensures { pass.new ≡ seen pass.old.table (pass.old.marks ++ marks_for (P.places index.now) (counters_of pair) births.now) pass.old.parts }
 {
     for birth in births {
         mark_birth(arrivals, index, birth, pair, pass);
@@ -78,78 +83,117 @@ pub(crate) fn mark_births(
 }
 
 /// Marks a birth, where it has the pair.
-fn mark_birth(arrivals: &Arrivals, index: &TupleIndex, birth: &Birth, pair: Pair, pass: &mut Pass)
+fn mark_birth<P: Places>(arrivals: &Arrivals, index: &P, birth: &Birth, pair: Pair, pass: &mut Pass)
     requires table { pass.old.table ≡ arrivals.now }
-    requires words { arrivals.now.words ≡ length (tuples_of index.now) }
+    requires words { arrivals.now.words ≡ (P.places index.now).len }
     requires part { 0 < pass.old.parts }
-    requires size { length birth.now.state ≡ index.now.atoms }
-    requires number { birth.now.number < 2 ^ 63 }
-    ensures { pass.new ≡ seen pass.old.table (pass.old.marks ++ birth_marks index.now (counters_of pair) birth.now) pass.old.parts }
+    requires birth { CanBeMarked (P.places index.now) birth.now }
+    ensures { pass.new ≡ seen pass.old.table (pass.old.marks ++ birth_marks (P.places index.now) (counters_of pair) birth.now) pass.old.parts }
 {
     if birth.pair() == pair {
-        mark_atoms(arrivals, index, birth.atoms(), birth.number(), pass);
+        mark_tuples(
+            arrivals,
+            index,
+            birth.old_atoms(),
+            birth.new_atoms(),
+            birth.number(),
+            pass,
+        );
     }
 }
 
-/// Marks the number at each tuple of these atoms.
+/// Marks the number at each tuple of these atoms that has a new one.
 // The first mark of a number is made at once, and each later one looks at its word first.
-fn mark_atoms(arrivals: &Arrivals, index: &TupleIndex, atoms: &[u32], number: u64, pass: &mut Pass)
+fn mark_tuples<P: Places>(
+    arrivals: &Arrivals,
+    index: &P,
+    old: &[u32],
+    new: &[u32],
+    number: u64,
+    pass: &mut Pass,
+)
     requires table { pass.old.table ≡ arrivals.now }
-    requires words { arrivals.now.words ≡ length (tuples_of index.now) }
+    requires words { arrivals.now.words ≡ (P.places index.now).len }
     requires part { 0 < pass.old.parts }
-    requires atoms { AreAtoms index.now.atoms atoms.now }
+    requires tuples { All (HasPlace (P.places index.now)) (tuples_with_new (P.places index.now).width old.now new.now) }
     requires number { number < 2 ^ 63 }
-    ensures { pass.new ≡ seen pass.old.table (pass.old.marks ++ marks_at index.now.atoms number (tuples_after index.now.width [] atoms.now)) pass.old.parts }
+    ensures { pass.new ≡ seen pass.old.table (pass.old.marks ++ marks_at (P.places index.now) number (tuples_with_new (P.places index.now).width old.now new.now)) pass.old.parts }
 {
-    // The width is at hand by this look at it: it is from 1 to 2, so the places number the tuples.
-    let _ = index.width();
-    if atoms.is_empty() {
+    if new.is_empty() {
         return;
     }
-    arrivals.mark(pass, index.atom_place(atoms[0]), number);
-    for place in 1..atoms.len() {
-        mark_with(arrivals, index, &atoms[..place], atoms[place], number, pass);
+    arrivals.mark(pass, index.atom_place(new[0]), number);
+    mark_atoms(arrivals, index, &new[1..], number, pass);
+    if index.width() == 2 {
+        mark_pairs(arrivals, index, old, new, number, pass);
     }
 }
 
-/// Marks the number at an atom, and at its pairs with those before it.
-fn mark_with(
+/// Marks the number at each of these atoms alone.
+fn mark_atoms<P: Places>(
     arrivals: &Arrivals,
-    index: &TupleIndex,
-    before: &[u32],
+    index: &P,
+    atoms: &[u32],
+    number: u64,
+    pass: &mut Pass,
+)
+    requires table { pass.old.table ≡ arrivals.now }
+    requires words { arrivals.now.words ≡ (P.places index.now).len }
+    requires part { 0 < pass.old.parts }
+    requires tuples { All (HasPlace (P.places index.now)) (map (λ p. p ∷ []) atoms.now) }
+    requires number { number < 2 ^ 63 }
+    requires latest { latest pass.old.marks ≡ number }
+    ensures marked { pass.new ≡ seen pass.old.table (pass.old.marks ++ marks_at (P.places index.now) number (map (λ p. p ∷ []) atoms.now)) pass.old.parts }
+    ensures latest { latest pass.new.marks ≡ number }
+{
+    for p in atoms {
+        arrivals.mark_again(pass, index.atom_place(*p), number);
+    }
+}
+
+/// Marks the number at each pair of these atoms that has a new one.
+fn mark_pairs<P: Places>(
+    arrivals: &Arrivals,
+    index: &P,
+    old: &[u32],
+    new: &[u32],
+    number: u64,
+    pass: &mut Pass,
+)
+    requires table { pass.old.table ≡ arrivals.now }
+    requires words { arrivals.now.words ≡ (P.places index.now).len }
+    requires part { 0 < pass.old.parts }
+    requires tuples { All (HasPlace (P.places index.now)) (pairs_after old.now new.now) }
+    requires number { number < 2 ^ 63 }
+    requires latest { latest pass.old.marks ≡ number }
+    ensures { pass.new ≡ seen pass.old.table (pass.old.marks ++ marks_at (P.places index.now) number (pairs_after old.now new.now)) pass.old.parts }
+{
+    for place in 0..new.len() {
+        mark_with(arrivals, index, old, new[place], number, pass);
+        mark_with(arrivals, index, &new[..place], new[place], number, pass);
+    }
+}
+
+/// Marks the number at the pairs of q with these atoms.
+// A plain loop over the list: at width 2 most of the time of a search may go here.
+fn mark_with<P: Places>(
+    arrivals: &Arrivals,
+    index: &P,
+    atoms: &[u32],
     q: u32,
     number: u64,
     pass: &mut Pass,
 )
     requires table { pass.old.table ≡ arrivals.now }
-    requires words { arrivals.now.words ≡ length (tuples_of index.now) }
+    requires words { arrivals.now.words ≡ (P.places index.now).len }
     requires part { 0 < pass.old.parts }
-    requires atom { q < index.now.atoms }
-    requires before { All (λ p. p < q) before.now }
+    requires tuples { All (HasPlace (P.places index.now)) (map (λ p. pair_of p q) atoms.now) }
     requires number { number < 2 ^ 63 }
     requires latest { latest pass.old.marks ≡ number }
-    ensures marked { pass.new ≡ seen pass.old.table (pass.old.marks ++ marks_at index.now.atoms number (tuples_with index.now.width before.now q)) pass.old.parts }
-    ensures latest { latest pass.new.marks ≡ number }
-{
-    arrivals.mark_again(pass, index.atom_place(q), number);
-    if index.width() == 2 {
-        mark_row(arrivals, index.pair_row(q), before, number, pass);
-    }
-}
-
-/// Marks the number at the places from `row` on that have the numbers of these atoms.
-// A plain loop over the list: at width 2 most of the time of a search may go here.
-fn mark_row(arrivals: &Arrivals, row: u64, atoms: &[u32], number: u64, pass: &mut Pass)
-    requires table { pass.old.table ≡ arrivals.now }
-    requires part { 0 < pass.old.parts }
-    requires row { row < 2 ^ 32 }
-    requires within { All (λ p. row + p < arrivals.now.words) atoms.now }
-    requires number { number < 2 ^ 63 }
-    requires latest { latest pass.old.marks ≡ number }
-    ensures marked { pass.new ≡ seen pass.old.table (pass.old.marks ++ map (λ p. mark (row + p) number) atoms.now) pass.old.parts }
+    ensures marked { pass.new ≡ seen pass.old.table (pass.old.marks ++ marks_at (P.places index.now) number (map (λ p. pair_of p q) atoms.now)) pass.old.parts }
     ensures latest { latest pass.new.marks ≡ number }
 {
     for p in atoms {
-        arrivals.mark_again(pass, row + u64::from(*p), number);
+        arrivals.mark_again(pass, place_of_pair(index, *p, q), number);
     }
 }

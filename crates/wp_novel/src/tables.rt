@@ -2,29 +2,31 @@
 ghost use Rattle.std.specs.Prelude.{◌≡◌, ◌≢◌, ℕ, ◌+◌, ◌*◌, ◌^◌, ◌<◌, ◌≤◌, [], ◌∷◌, ◌++◌, min, List, true, false, None, Err, length, All, Contains, OnOk, OnErr, IfOk, IfSome};
 ghost use Rattle.std.specs.List.{AllPairs};
 ghost use Rattle.wp_task.specs.Novelty.{Generated, novelty_of};
-ghost use Rattle.wp_tuples.specs.TuplePlaces.{tuples_of};
-ghost use Rattle.wp_novel.specs.NoveltyTables.{counters_of, open_pairs, is_open, IsOpen, IsOpened, IsAtHome, home_of};
-ghost use Rattle.wp_novel.specs.StandsFor.{last_after, StandsFor};
-ghost use Rattle.wp_novel.specs.Jobs.{births_of, numbers_of, worked_job, IsJobOf, AreOut, AreDealt, AreCollected};
+ghost use Rattle.wp_tuples.specs.Placing.{AreApart};
+ghost use Rattle.wp_novel.specs.Births.{nodes_of};
+ghost use Rattle.wp_novel.specs.MarkedTuples.{AreCounted};
+ghost use Rattle.wp_novel.specs.NoveltyTables.{placed, counters_of, open_pairs, is_open, IsOpen, IsOpened, IsAtHome, home_of};
+ghost use Rattle.wp_novel.specs.StandsFor.{last_after, StandsFor, AreMarkedBelow};
+ghost use Rattle.wp_novel.specs.Jobs.{births_of, worked_job, IsReady, IsJobOf, AreOut, AreDealt, AreCollected};
 
 use crate::birth::{Birth, Births, Pair};
 use crate::deal::{fill_all, join_all, numbers_of, shares_of};
 use crate::error::PairError;
 use crate::home::Home;
 use crate::job::{MarkJob, MarkJobs};
-use crate::marks::mark_passes;
+use crate::marks::mark_job;
 use indexmap::IndexMap;
 use std::alloc::{AllocError, Global};
 use std::marker::Model;
 use std::mem::replace;
 use wp_edge::{Gate, JobName};
-use wp_tuples::TupleIndex;
+use wp_tuples::Places;
 
 /// Novelty tables over the tuples of an index.
 #[derive(Drop)]
-pub struct Tables {
+pub struct Tables<P: Places> {
     alloc: Global,
-    index: TupleIndex,
+    index: P,
     limit: u64,
     homes: IndexMap<Pair, Home>,
     last: Option<u64>,
@@ -33,28 +35,28 @@ pub struct Tables {
     back: Vec<Birth>,
 }
 
-impl Model for Tables {
+impl<P: Places> Model for Tables<P> {
     ghost use Rattle.std.specs.Prelude.{◌≡◌, ◌≤◌, length, []};
     ghost use Rattle.std.specs.Vec.{vec_capacity};
-    ghost use Rattle.wp_novel.specs.NoveltyTables.{NoveltyTables, AreFilled};
+    ghost use Rattle.wp_novel.specs.NoveltyTables.{TablesOver, AreFilled};
 
-    ghost Value = { NoveltyTables };
+    ghost Value = { TablesOver P };
 
     ghost view = { λ t. record { index = t.index; limit = t.limit; homes = t.homes.entries; last = t.last; out = t.out.items } };
 
-    ghost invariant = { λ t. AreFilled (record { index = t.index; limit = t.limit; homes = t.homes.entries; last = t.last; out = t.out.items })
+    ghost invariant = { λ t. AreFilled (record { index = P.places t.index; limit = t.limit; homes = t.homes.entries; last = t.last; out = t.out.items })
         × (t.back.items ≡ []) × (length t.out.items ≤ vec_capacity t.back) };
 }
 
-impl Tables {
+impl<P: Places> Tables<P> {
     /// No pair is open yet, nothing was collected, and no job is out. There may be `limit` words in all.
-    pub fn new(alloc: Global, index: TupleIndex, limit: u64) -> Tables
+    pub fn new(alloc: Global, index: P, limit: u64) -> Tables<P>
         requires { limit ≤ 536870912 }
         ensures value { result ≡ record { index = index; limit = limit; homes = []; last = None; out = [] } }
-        ensures stands { StandsFor result [] }
-        ensures home { IsAtHome result }
+        ensures stands { StandsFor (placed P.places result) [] }
+        ensures home { IsAtHome (placed P.places result) }
     {
-        // The width is at hand by this look at it: it is from 1 to 2, so the places number the tuples.
+        // What holds of an index is at hand by this look at it.
         let _ = index.width();
         Tables {
             alloc,
@@ -69,37 +71,38 @@ impl Tables {
 
     /// How many words a pair has: one for each tuple.
     pub fn len(&self) -> u64
-        ensures { result ≡ length (tuples_of self.now.index) }
+        ensures value { result ≡ (placed P.places self.now).index.len }
+        ensures apart { AreApart (placed P.places self.now).index }
     {
         self.index.len()
     }
 
     /// Whether the pair is open.
     pub fn has(&self, pair: Pair) -> bool
-        ensures { result ≡ is_open self.now (counters_of pair) }
+        ensures { result ≡ is_open (placed P.places self.now) (counters_of pair) }
     {
         self.homes.contains_key(&pair)
     }
 
     /// How many pairs are open.
     pub fn pairs(&self) -> u64
-        ensures value { result ≡ length (open_pairs self.now) }
-        ensures within { result * length (tuples_of self.now.index) ≤ self.now.limit }
+        ensures value { result ≡ length (open_pairs (placed P.places self.now)) }
+        ensures within { result * (placed P.places self.now).index.len ≤ self.now.limit }
     {
         self.homes.len() as u64
     }
 
     /// Opens a pair, at which nothing was marked yet. After an error the tables are as before.
     pub fn open_pair(&mut self, pair: Pair) -> Result<(), PairError>
-        requires { is_open self.old (counters_of pair) ≡ false }
-        ensures opened { OnOk result (IsOpened pair self.old self.new) }
-        ensures pairs { OnOk result (open_pairs self.new ≡ open_pairs self.old ++ counters_of pair ∷ []) }
-        ensures home { OnOk result (IsAtHome self.old → IsAtHome self.new) }
-        ensures stands { OnOk result ((births : List Generated) → StandsFor self.old births → StandsFor self.new births) }
+        requires { is_open (placed P.places self.old) (counters_of pair) ≡ false }
+        ensures opened { OnOk result (IsOpened pair (placed P.places self.old) (placed P.places self.new)) }
+        ensures pairs { OnOk result (open_pairs (placed P.places self.new) ≡ open_pairs (placed P.places self.old) ++ counters_of pair ∷ []) }
+        ensures home { OnOk result (IsAtHome (placed P.places self.old) → IsAtHome (placed P.places self.new)) }
+        ensures stands { OnOk result ((births : List Generated) → StandsFor (placed P.places self.old) births → StandsFor (placed P.places self.new) births) }
         ensures refused { OnErr result (self.new ≡ self.old) }
-        ensures words { self.old.limit < (length (open_pairs self.old) + 1) * length (tuples_of self.old.index) →
-            result ≡ Err (PairError.Words ((length (open_pairs self.old) + 1) * length (tuples_of self.old.index))) }
-        ensures within { (length (open_pairs self.old) + 1) * length (tuples_of self.old.index) ≤ self.old.limit → (need : ℕ) → result ≢ Err (PairError.Words need) }
+        ensures words { self.old.limit < (length (open_pairs (placed P.places self.old)) + 1) * (placed P.places self.old).index.len →
+            result ≡ Err (PairError.Words ((length (open_pairs (placed P.places self.old)) + 1) * (placed P.places self.old).index.len)) }
+        ensures within { (length (open_pairs (placed P.places self.old)) + 1) * (placed P.places self.old).index.len ≤ self.old.limit → (need : ℕ) → result ≢ Err (PairError.Words need) }
     {
         let tuples = self.index.len();
         let need = self.homes.len() as u64 * tuples + tuples;
@@ -112,21 +115,20 @@ impl Tables {
     }
 
     /// Deals the births to workers, each with at least one where there are as many births. Their numbers are then out, and the
-    /// tables stand for the same births as before. After want of memory no pass was split, and the births are dropped.
+    /// tables stand for the same births as before. Of a birth with new atoms the tuples of its other atoms were marked before. After
+    /// want of memory no pass was split, and the births are dropped.
     pub fn deal(&mut self, births: Births, workers: u32) -> Result<MarkJobs, AllocError>
-        requires home { IsAtHome self.old }
+        requires home { IsAtHome (placed P.places self.old) }
         requires workers { (1 ≤ workers) × (workers ≤ 64) }
-        requires pairs { All (λ b. IsOpen self.old b.counters) births }
-        requires sizes { All (λ b. length b.state ≡ self.old.index.atoms) births }
-        requires numbers { All (λ b. b.number < 2 ^ 63) births }
-        requires later { IfSome self.old.last (λ last. All (λ b. last < b.number) births) }
-        requires rising { AllPairs (λ x y. x.number < y.number) births }
+        requires ready { All (IsReady (placed P.places self.old)) births }
+        requires later { IfSome self.old.last (λ last. All (λ b. last < b.node.number) births) }
+        requires rising { AllPairs (λ x y. x.node.number < y.node.number) births }
         ensures count { IfOk result (λ jobs. length jobs ≡ min workers (length births)) }
         ensures some { IfOk result (λ jobs. All (λ j. 0 < length j.births) jobs) }
         ensures births { IfOk result (λ jobs. births_of jobs ≡ births) }
-        ensures out { IfOk result (AreOut self.new false) }
-        ensures dealt { IfOk result (λ jobs. AreDealt jobs self.old self.new) }
-        ensures stands { OnOk result ((before : List Generated) → StandsFor self.old before → StandsFor self.new before) }
+        ensures out { IfOk result (AreOut (placed P.places self.new) false) }
+        ensures dealt { IfOk result (λ jobs. AreDealt jobs (placed P.places self.old) (placed P.places self.new)) }
+        ensures stands { OnOk result ((before : List Generated) → StandsFor (placed P.places self.old) before → StandsFor (placed P.places self.new) before) }
         ensures refused { OnErr result (self.new ≡ self.old) }
     {
         let births = births.into_vec();
@@ -140,25 +142,24 @@ impl Tables {
         Ok(MarkJobs::of_vec(fill_all(&mut self.homes, shares, jobs)))
     }
 
-    /// Passes the gate and marks each birth of the job at each tuple of its state, in the table of its pair. It takes no memory and
-    /// waits for no other worker.
+    /// Passes the gate and marks each birth of the job at each tuple of its state that has a new atom, in the table of its pair. It takes
+    /// no memory and waits for no other worker.
     pub fn work<G: Gate>(&self, job: &mut MarkJob, gate: &G)
-        requires { IsJobOf self.now false job.old }
-        ensures worked { job.new ≡ worked_job self.now.index job.old }
+        requires { IsJobOf (placed P.places self.now) false job.old }
+        ensures worked { job.new ≡ worked_job (P.places self.now.index) job.old }
     {
-        gate.pass(JobName::Mark { place: job.place });
-        mark_passes(&self.homes, &self.index, &job.births, &mut job.passes);
-        job.worked = true;
+        pass_gate(job, gate);
+        mark_job(&self.homes, &self.index, job);
     }
 
     /// Takes all jobs that are out back, and gives their births one after another. It takes no memory.
     pub fn collect(&mut self, jobs: MarkJobs) -> Births
-        requires { AreOut self.old true jobs }
+        requires { AreOut (placed P.places self.old) true jobs }
         ensures births { result ≡ births_of jobs }
-        ensures home { IsAtHome self.new }
-        ensures last { self.new.last ≡ last_after (births_of jobs) self.old.last }
-        ensures collected { AreCollected jobs self.old self.new }
-        ensures stands { (before : List Generated) → StandsFor self.old before → StandsFor self.new (before ++ births_of jobs) }
+        ensures home { IsAtHome (placed P.places self.new) }
+        ensures last { self.new.last ≡ last_after (nodes_of (births_of jobs)) self.old.last }
+        ensures collected { AreCollected jobs (placed P.places self.old) (placed P.places self.new) }
+        ensures stands { (before : List Generated) → StandsFor (placed P.places self.old) before → StandsFor (placed P.places self.new) (before ++ nodes_of (births_of jobs)) }
     {
         let room = replace(&mut self.back, Vec::new(self.alloc));
         let births = join_all(&mut self.homes, jobs.into_vec(), room);
@@ -169,18 +170,27 @@ impl Tables {
 
     /// The novelty of a birth among the births that the tables stand for.
     pub fn novelty(&mut self, birth: &Birth) -> u8
-        requires home { IsAtHome self.old }
-        requires pair { IsOpen self.old birth.now.counters }
-        requires size { length birth.now.state ≡ self.old.index.atoms }
-        ensures value { (births : List Generated) → StandsFor self.old births → Contains births birth.now →
-            result ≡ novelty_of self.old.index.width births birth.now }
+        requires home { IsAtHome (placed P.places self.old) }
+        requires pair { IsOpen (placed P.places self.old) birth.now.node.counters }
+        requires size { length birth.now.node.state ≡ (placed P.places self.old).index.atoms }
+        requires counted { AreCounted (placed P.places self.old).index birth.now.node.state }
+        requires marked { AreMarkedBelow (placed P.places self.old) birth.now.node.number birth.now }
+        ensures value { (births : List Generated) → StandsFor (placed P.places self.old) births → Contains births birth.now.node →
+            result ≡ novelty_of (placed P.places self.old).index.width births birth.now.node }
         ensures same { self.new ≡ self.old }
     {
         match self.homes.get_mut(&birth.pair()) {
-            Some(home) => home.least_size(&self.index, birth.atoms(), birth.number()),
+            Some(home) => home.least_size(&self.index, birth),
             None => unreachable!(),
         }
     }
+}
+
+/// Passes the gate, before the job is worked.
+fn pass_gate<G: Gate>(job: &MarkJob, gate: &G)
+    requires { job.now.worked ≡ false }
+{
+    gate.pass(JobName::Mark { place: job.place });
 }
 
 /// Adds a pair that is not there, with its home.
@@ -195,7 +205,7 @@ fn add(homes: &mut IndexMap<Pair, Home>, pair: Pair, home: Home) -> Result<(), A
 
 /// The number of the last birth, and that before where there is none.
 fn last_after(births: &[Birth], before: Option<u64>) -> Option<u64>
-    ensures { result ≡ last_after births.now before }
+    ensures { result ≡ last_after (nodes_of births.now) before }
 {
     match births.last() {
         Some(birth) => Some(birth.number()),

@@ -5,14 +5,15 @@ use Rattle.wp_lex.specs.Rising.{TreeRises, Rises}
 use Rattle.wp_syntax.specs.declared.error.ReadKind.TheVariants.{Shape, Unsupported}
 use Rattle.wp_syntax.specs.declared.records.AtomText.{AtomText}
 use Rattle.wp_syntax.specs.declared.records.Cond.{Cond}
-use Rattle.wp_syntax.specs.declared.records.Effect.{Effect}
-use Rattle.wp_syntax.specs.declared.records.InitItem.{InitItem}
+use Rattle.wp_syntax.specs.declared.items.EffectItem.{EffectItem}
+use Rattle.wp_syntax.specs.declared.items.InitFact.{InitFact}
 use Rattle.wp_syntax.specs.declared.word.Head.TheVariants as heads
 use Rattle.wp_syntax.specs.Word.{is_term}
 use Rattle.wp_syntax.specs.Heads.{head_of}
 use Rattle.wp_syntax.specs.Reading.{Wrong, Read, fine, wrong, wrong_if, ◌>>=◌, ◌>>◌, each}
 use Rattle.wp_syntax.specs.Grammar.{term_of, atom_of, atom_cond_of, side_of, sides_of, equality_of, negation_of, plain_cond_of, cond_of, plain_goal_of, goal_of}
-use Rattle.wp_syntax.specs.Effects.{no_atom, negated_of, plain_effect_of, effect_of, is_timed, fact_from, stated_of, headed_fact_of, fact_of}
+use Rattle.wp_syntax.specs.Items.{change, literal}
+use Rattle.wp_syntax.specs.Effects.{no_atom, negated_of, plain_effect_of, effect_of, is_timed, stated_of, headed_fact_of, fact_of}
 use Rattle.wp_syntax.specs.Walk.{key, Ordered}
 use Rattle.wp_syntax.proofs.Order.{lower, both, higher, ended, perhaps, told, rises_le, tree_lt, each_walks, conjunction_walks}
 
@@ -164,9 +165,9 @@ plain_effect_walks at head i rest low high a b r =
     let below : low ≤ high = rises_le rest low high r in
     let unsupported : Ordered (5 * at) (wrong (Unsupported head) i).faults (5 * high) =
     lower (5 * at) (5 * i) (5 * high) (wrong (Unsupported head) i).faults first (told (Unsupported head) i rest low high b r) in
-    elim (head_of head) as (λ k. let r : Read (List Effect) = elim k [
-      | heads.Not ↦ negated_of head i rest >>= λ atom. fine (record { add = false; atom = atom } ∷ [])
-      | heads.Name ↦ atom_of head i rest >>= λ atom. fine (record { add = true; atom = atom } ∷ [])
+    elim (head_of head) as (λ k. let r : Read (List EffectItem) = elim k [
+      | heads.Not ↦ negated_of head i rest >>= λ atom. fine (change false atom ∷ [])
+      | heads.Name ↦ atom_of head i rest >>= λ atom. fine (change true atom ∷ [])
       | heads.Other ↦ wrong Shape at >> fine []
       | _ ↦ wrong (Unsupported head) i >> fine []
     ] in Ordered (5 * at) r.faults (5 * high)) [
@@ -185,9 +186,9 @@ stated_walks : (head : List ℕ) (i : ℕ) (rest : Trees) (low high : ℕ) → i
     → Ordered (5 * i) (stated_of head i rest).faults (5 * high)
 stated_walks head i rest low high b r =
     let timed : Ordered (5 * i) (wrong (Unsupported head) i).faults (5 * high) = told (Unsupported head) i rest low high b r in
-    elim (is_timed head rest) as (λ k. let r : Read InitItem = elim k [
-      | true ↦ wrong (Unsupported head) i >> fine (fact_from true (no_atom head i))
-      | false ↦ atom_of head i rest >>= λ atom. fine (fact_from true atom)
+    elim (is_timed head rest) as (λ k. let r : Read InitFact = elim k [
+      | true ↦ wrong (Unsupported head) i >> fine (literal true (no_atom head i))
+      | false ↦ atom_of head i rest >>= λ atom. fine (literal true atom)
     ] in Ordered (5 * i) r.faults (5 * high)) [
       | true ↦ timed
       | false ↦ ended (5 * i) (5 * high) (atom_of head i rest).faults
@@ -201,11 +202,11 @@ headed_fact_walks at head i rest low high a b r =
     let below : low ≤ high = rises_le rest low high r in
     let unsupported : Ordered (5 * at) (wrong (Unsupported head) i).faults (5 * high) =
     lower (5 * at) (5 * i) (5 * high) (wrong (Unsupported head) i).faults first (told (Unsupported head) i rest low high b r) in
-    elim (head_of head) as (λ k. let r : Read InitItem = elim k [
-      | heads.Not ↦ negated_of head i rest >>= λ atom. fine (fact_from false atom)
+    elim (head_of head) as (λ k. let r : Read InitFact = elim k [
+      | heads.Not ↦ negated_of head i rest >>= λ atom. fine (literal false atom)
       | heads.Name ↦ stated_of head i rest
-      | heads.Other ↦ wrong Shape at >> fine (fact_from true (no_atom head i))
-      | _ ↦ wrong (Unsupported head) i >> fine (fact_from true (no_atom head i))
+      | heads.Other ↦ wrong Shape at >> fine (literal true (no_atom head i))
+      | _ ↦ wrong (Unsupported head) i >> fine (literal true (no_atom head i))
     ] in Ordered (5 * at) r.faults (5 * high)) [
       | heads.Not ↦ ended (5 * at) (5 * high) (negated_of head i rest).faults
           (lower (5 * at) (5 * i) (5 * high) (negated_of head i rest).faults first (negated_walks head i rest low high b r))

@@ -1,5 +1,5 @@
 -- The parts of an action, and actions: they are read without a fault exactly where the grammar has them.
-use Rattle.std.proofs.Common.{◌≡◌, ℕ, false, not, leb, List, [], ◌∷◌, ◌++◌, length, map, Option, None, Some, refl, sym, ap, subst, ◌∙◌}
+use Rattle.std.proofs.Common.{unwrap_or, ◌≡◌, ℕ, false, not, leb, List, [], ◌∷◌, ◌++◌, length, map, Option, None, Some, refl, sym, ap, subst, ◌∙◌}
 use Rattle.std.specs.Prelude.{codes, is_some, option_to_list}
 use Rattle.std.specs.List.{list_any}
 use Rattle.std.specs.Str.{bytes_eq}
@@ -9,7 +9,7 @@ use Rattle.wp_syntax.specs.declared.error.ReadKind.TheVariants.{Shape, Unsupport
 use Rattle.wp_syntax.specs.declared.records.Name.{Name}
 use Rattle.wp_syntax.specs.declared.records.Typed.{Typed}
 use Rattle.wp_syntax.specs.declared.records.Cond.{Cond}
-use Rattle.wp_syntax.specs.declared.records.Effect.{Effect}
+use Rattle.wp_syntax.specs.declared.items.EffectItem.{EffectItem}
 use Rattle.wp_syntax.specs.declared.records.ActionText.{ActionText}
 use Rattle.wp_syntax.specs.declared.action.Parts.{Parts}
 use Rattle.wp_syntax.specs.declared.typing.Role.TheVariants as roles
@@ -20,6 +20,7 @@ use Rattle.wp_syntax.specs.Heads.{part_head_of}
 use Rattle.wp_syntax.specs.Named.{most_declared}
 use Rattle.wp_syntax.specs.Reading.{Read, fine, wrong, wrong_if, ◌>>=◌, ◌>>◌}
 use Rattle.wp_syntax.specs.Grammar.{name_at, cond_of}
+use Rattle.wp_syntax.specs.Items.{changes_in}
 use Rattle.wp_syntax.specs.Effects.{effect_of}
 use Rattle.wp_syntax.specs.Typing.{typed_of}
 use Rattle.wp_syntax.specs.Actions.{no_parts, part_of, bare_part_of, valued_of, parts_of, action_from, is_defined, defined_of, action_of}
@@ -78,7 +79,7 @@ add_part so_far (Precondition conds) parts all free it = record {
 add_part so_far (Effects effects) parts all free it = record {
   params = it.params;
   pre = it.pre;
-  effects = subst (λ (o : Option (List Effect)). option_to_list o ++ effects ∷ effects_in parts ≡ option_to_list all.effects) (sym free) it.effects;
+  effects = subst (λ (o : Option (List EffectItem)). option_to_list o ++ effects ∷ effects_in parts ≡ option_to_list all.effects) (sym free) it.effects;
 }
 
 has_place : (so_far : Parts) (part : ActionPart) (parts : List ActionPart) (all : Parts) → Fills so_far (part ∷ parts) all → HasPlace so_far part
@@ -103,7 +104,7 @@ put_part so_far (Precondition conds) parts all it = record {
 put_part so_far (Effects effects) parts all it = record {
   params = it.params;
   pre = it.pre;
-  effects = subst (λ (o : Option (List Effect)). option_to_list o ++ effects ∷ effects_in parts ≡ option_to_list all.effects)
+  effects = subst (λ (o : Option (List EffectItem)). option_to_list o ++ effects ∷ effects_in parts ≡ option_to_list all.effects)
       (free_of so_far.effects effects (effects_in parts) all.effects it.effects) it.effects;
 }
 
@@ -203,8 +204,8 @@ some_fault fault e = cc
 no_condition : (text : List ℕ) (i : ℕ) (conds : List Cond) → IsCondition (Leaf text i) conds → ⊥
 no_condition text i conds is = some_fault _ (ap (λ (r : Read (List Cond)). r.faults) (cond_reads (Leaf text i) conds is))
 
-no_effect : (text : List ℕ) (i : ℕ) (effects : List Effect) → IsEffect (Leaf text i) effects → ⊥
-no_effect text i effects is = some_fault _ (ap (λ (r : Read (List Effect)). r.faults) (effect_reads (Leaf text i) effects is))
+no_effect : (text : List ℕ) (i : ℕ) (effects : List EffectItem) → IsEffect (Leaf text i) effects → ⊥
+no_effect text i effects is = some_fault _ (ap (λ (r : Read (List EffectItem)). r.faults) (effect_reads (Leaf text i) effects is))
 
 part_reads : (so_far : Parts) (word : List ℕ) (at : ℕ) (value : Tree) (part : ActionPart) → IsPart word value part → HasPlace so_far part
     → valued_of so_far word at value ≡ fine (with_part so_far part)
@@ -261,7 +262,9 @@ action_holds before at (Then (Leaf text i) rest) none =
           each = it.each;
           params = once_of (params_in it.parts) read.value.params it.fill.params;
           pre = once_of (conds_in it.parts) read.value.pre it.fill.pre;
+          items = unwrap_or read.value.effects [];
           effects = once_of (effects_in it.parts) read.value.effects it.fill.effects;
+          changes = refl;
         },
       );
       new = has_swapped (λ (action : ActionText). action.name) text before
@@ -285,9 +288,9 @@ action_reads before at (Then (Leaf text i) more) action rest (named, name, has) 
     ∙ declared_within most_declared names action.name.text rest are.few in
     let params = kept_is (params_in has.parts) action.params has.params in
     let pre = kept_is (conds_in has.parts) action.pre has.pre in
-    let effects = kept_is (effects_in has.parts) action.effects has.effects in
+    let effects = kept_is (effects_in has.parts) has.items has.effects in
     let all : Parts = record { params = kept_of (params_in has.parts); pre = kept_of (conds_in has.parts); effects = kept_of (effects_in has.parts) } in
     let read = parts_read no_parts more has.parts all has.each (record { params = params.0; pre = pre.0; effects = effects.0 }) in
     (λ j. (wrong_if (not (named j)) Shape i >> (wrong_if (new j) Duplicate i >> wrong_if (within j) (TooMany most_declared) i))
     >> (read j >>= λ parts. fine (action_from (name_at text i) parts)))
-    ∙ λ j. fine (record { name = sym name j; params = params.1 j; pre = pre.1 j; effects = effects.1 j })
+    ∙ λ j. fine (record { name = sym name j; params = params.1 j; pre = pre.1 j; effects = (ap changes_in effects.1 ∙ sym has.changes) j })

@@ -7,14 +7,15 @@ use Rattle.wp_syntax.specs.declared.records.Name.{Name}
 use Rattle.wp_syntax.specs.declared.records.AtomText.{AtomText}
 use Rattle.wp_syntax.specs.declared.records.Cond.{Cond}
 use Rattle.wp_syntax.specs.declared.records.Cond.TheVariants.{Atom, Same, Differ}
-use Rattle.wp_syntax.specs.declared.records.Effect.{Effect}
-use Rattle.wp_syntax.specs.declared.records.InitItem.{InitItem}
+use Rattle.wp_syntax.specs.declared.items.EffectItem.{EffectItem}
+use Rattle.wp_syntax.specs.declared.items.InitFact.{InitFact}
 use Rattle.wp_syntax.specs.declared.word.Head.TheVariants as heads
 use Rattle.wp_syntax.specs.Word.{is_term}
 use Rattle.wp_syntax.specs.Heads.{head_of}
 use Rattle.wp_syntax.specs.Reading.{Read, fine, wrong, wrong_if, ◌>>=◌, ◌>>◌, each}
 use Rattle.wp_syntax.specs.Grammar.{name_at, term_of, atom_of, atom_cond_of, equation, side_of, sides_of, equality_of, negation_of, plain_cond_of, cond_of, plain_goal_of, goal_of}
-use Rattle.wp_syntax.specs.Effects.{no_atom, negated_of, plain_effect_of, effect_of, is_timed, fact_from, stated_of, headed_fact_of, fact_of}
+use Rattle.wp_syntax.specs.Items.{change, literal}
+use Rattle.wp_syntax.specs.Effects.{no_atom, negated_of, plain_effect_of, effect_of, is_timed, stated_of, headed_fact_of, fact_of}
 use Rattle.wp_syntax.specs.Phrases.{IsWordThat, IsAtom, IsEquality, IsLiteral, of_atom, of_same, of_differ, IsCondition, IsGoal, IsChange, of_add, of_delete, IsEffect, is_timed_literal, IsFact, of_stated, of_denied}
 use Rattle.wp_syntax.proofs.FaultLemmas.{none_before, none_behind}
 use Rattle.wp_syntax.proofs.Heads.{passed, is_pred, SaysOf, head_says, head_named, no_conjunction}
@@ -247,24 +248,24 @@ change_holds : (at : ℕ) (head : List ℕ) (i : ℕ) (rest : Trees) → (plain_
     → Alone IsChange (Branch at (Then (Leaf head i) rest)) (plain_effect_of at head i rest).value
 change_holds at head i rest none =
     let tree : Tree = Branch at (Then (Leaf head i) rest) in
-    elim (head_of head) as (λ k. SaysOf k head → let r : Read (List Effect) = elim k [
-      | heads.Not ↦ negated_of head i rest >>= λ atom. fine (record { add = false; atom = atom } ∷ [])
-      | heads.Name ↦ atom_of head i rest >>= λ atom. fine (record { add = true; atom = atom } ∷ [])
+    elim (head_of head) as (λ k. SaysOf k head → let r : Read (List EffectItem) = elim k [
+      | heads.Not ↦ negated_of head i rest >>= λ atom. fine (change false atom ∷ [])
+      | heads.Name ↦ atom_of head i rest >>= λ atom. fine (change true atom ∷ [])
       | heads.Other ↦ wrong Shape at >> fine []
       | _ ↦ wrong (Unsupported head) i >> fine []
     ] in r.faults ≡ [] → Alone IsChange tree r.value) [
       | heads.Not ↦ λ says none.
           let atom = (negated_of head i rest).value in
           let it = negated_holds head i rest (none_before (negated_of head i rest).faults [] none) in
-          let change : Effect = record { add = false; atom = atom } in record {
-            item = change;
+          record {
+            item = change false atom;
             only = refl;
-            is = subst (λ (w : List ℕ). IsChange (Branch at (Then (Leaf w i) rest)) change) (sym says)
-                (subst (λ (trees : Trees). IsChange (Branch at (Then (Leaf (codes "not") i) trees)) change) (sym it.only)
+            is = subst (λ (w : List ℕ). IsChange (Branch at (Then (Leaf w i) rest)) (change false atom)) (sym says)
+                (subst (λ (trees : Trees). IsChange (Branch at (Then (Leaf (codes "not") i) trees)) (change false atom)) (sym it.only)
                 (of_delete it.tree atom at i it.is));
           }
       | heads.Name ↦ λ says none. record {
-        item = record { add = true; atom = (atom_of head i rest).value };
+        item = change true (atom_of head i rest).value;
         only = refl;
         is = of_add tree (atom_of head i rest).value (atom_holds at head i rest says (none_before (atom_of head i rest).faults [] none));
       }
@@ -272,33 +273,33 @@ change_holds at head i rest none =
       | _ ↦ λ says none. cc
     ] (head_says head) none
 
-change_reads : (tree : Tree) (effect : Effect) → IsChange tree effect → effect_of tree ≡ fine (effect ∷ [])
+change_reads : (tree : Tree) (item : EffectItem) → IsChange tree item → effect_of tree ≡ fine (item ∷ [])
 change_reads _ _ (of_add tree atom is) =
-    with_atom (λ tree atom. effect_of tree ≡ fine (record { add = true; atom = atom } ∷ [])) (λ at pred i terms atom named read.
+    with_atom (λ tree atom. effect_of tree ≡ fine (change true atom ∷ [])) (λ at pred i terms atom named read.
     without_and plain_effect_of at pred i terms (no_conjunction pred named)
-    ∙ ap (λ k. let r : Read (List Effect) = elim k [
-      | heads.Not ↦ negated_of pred i terms >>= λ atom. fine (record { add = false; atom = atom } ∷ [])
-      | heads.Name ↦ atom_of pred i terms >>= λ atom. fine (record { add = true; atom = atom } ∷ [])
+    ∙ ap (λ k. let r : Read (List EffectItem) = elim k [
+      | heads.Not ↦ negated_of pred i terms >>= λ atom. fine (change false atom ∷ [])
+      | heads.Name ↦ atom_of pred i terms >>= λ atom. fine (change true atom ∷ [])
       | heads.Other ↦ wrong Shape at >> fine []
       | _ ↦ wrong (Unsupported pred) i >> fine []
     ] in r) (head_named pred named)
-    ∙ λ j. read j >>= λ atom. fine (record { add = true; atom = atom } ∷ [])) tree atom is
+    ∙ λ j. read j >>= λ atom. fine (change true atom ∷ [])) tree atom is
 change_reads _ _ (of_delete tree atom i j is) =
-    λ k. negated_reads (codes "not") j tree atom is k >>= λ atom. fine (record { add = false; atom = atom } ∷ [])
+    λ k. negated_reads (codes "not") j tree atom is k >>= λ atom. fine (change false atom ∷ [])
 
 pub effect_holds : (tree : Tree) → (effect_of tree).faults ≡ [] → IsEffect tree (effect_of tree).value
 effect_holds tree none = conjunction_holds plain_effect_of IsChange change_holds tree none
 
-pub effect_reads : (tree : Tree) (effects : List Effect) → IsEffect tree effects → effect_of tree ≡ fine effects
-effect_reads tree effects is = conjunction_reads plain_effect_of IsChange change_reads is
+pub effect_reads : (tree : Tree) (items : List EffectItem) → IsEffect tree items → effect_of tree ≡ fine items
+effect_reads tree items is = conjunction_reads plain_effect_of IsChange change_reads is
 
 -- ---- facts of :init
 stated_holds : (at : ℕ) (head : List ℕ) (i : ℕ) (rest : Trees) → is_pred head ≡ true → (stated_of head i rest).faults ≡ []
     → IsFact (Branch at (Then (Leaf head i) rest)) (stated_of head i rest).value
 stated_holds at head i rest is none =
-    elim (is_timed head rest) as (λ k. is_timed head rest ≡ k → let r : Read InitItem = elim k [
-      | true ↦ wrong (Unsupported head) i >> fine (fact_from true (no_atom head i))
-      | false ↦ atom_of head i rest >>= λ atom. fine (fact_from true atom)
+    elim (is_timed head rest) as (λ k. is_timed head rest ≡ k → let r : Read InitFact = elim k [
+      | true ↦ wrong (Unsupported head) i >> fine (literal true (no_atom head i))
+      | false ↦ atom_of head i rest >>= λ atom. fine (literal true atom)
     ] in r.faults ≡ [] → IsFact (Branch at (Then (Leaf head i) rest)) r.value) [
       | true ↦ λ e none. cc
       | false ↦ λ e none. of_stated (Branch at (Then (Leaf head i) rest)) (atom_of head i rest).value e
@@ -308,17 +309,17 @@ stated_holds at head i rest is none =
 headed_fact_holds : (at : ℕ) (head : List ℕ) (i : ℕ) (rest : Trees) → (headed_fact_of at head i rest).faults ≡ []
     → IsFact (Branch at (Then (Leaf head i) rest)) (headed_fact_of at head i rest).value
 headed_fact_holds at head i rest none =
-    elim (head_of head) as (λ k. SaysOf k head → let r : Read InitItem = elim k [
-      | heads.Not ↦ negated_of head i rest >>= λ atom. fine (fact_from false atom)
+    elim (head_of head) as (λ k. SaysOf k head → let r : Read InitFact = elim k [
+      | heads.Not ↦ negated_of head i rest >>= λ atom. fine (literal false atom)
       | heads.Name ↦ stated_of head i rest
-      | heads.Other ↦ wrong Shape at >> fine (fact_from true (no_atom head i))
-      | _ ↦ wrong (Unsupported head) i >> fine (fact_from true (no_atom head i))
+      | heads.Other ↦ wrong Shape at >> fine (literal true (no_atom head i))
+      | _ ↦ wrong (Unsupported head) i >> fine (literal true (no_atom head i))
     ] in r.faults ≡ [] → IsFact (Branch at (Then (Leaf head i) rest)) r.value) [
       | heads.Not ↦ λ says none.
           let atom = (negated_of head i rest).value in
           let it = negated_holds head i rest (none_before (negated_of head i rest).faults [] none) in
-          subst (λ (w : List ℕ). IsFact (Branch at (Then (Leaf w i) rest)) (fact_from false atom)) (sym says)
-          (subst (λ (trees : Trees). IsFact (Branch at (Then (Leaf (codes "not") i) trees)) (fact_from false atom)) (sym it.only)
+          subst (λ (w : List ℕ). IsFact (Branch at (Then (Leaf w i) rest)) (literal false atom)) (sym says)
+          (subst (λ (trees : Trees). IsFact (Branch at (Then (Leaf (codes "not") i) trees)) (literal false atom)) (sym it.only)
           (of_denied it.tree atom at i it.is))
       | heads.Name ↦ λ says none. stated_holds at head i rest says none
       | heads.Other ↦ λ says none. cc
@@ -335,20 +336,20 @@ fact_holds (Branch at (Then (Leaf head i) rest)) none = record {
   is = headed_fact_holds at head i rest (none_before (headed_fact_of at head i rest).faults [] none);
 }
 
-pub fact_reads : (tree : Tree) (fact : InitItem) → IsFact tree fact → fact_of tree ≡ fine (fact ∷ [])
+pub fact_reads : (tree : Tree) (fact : InitFact) → IsFact tree fact → fact_of tree ≡ fine (fact ∷ [])
 fact_reads _ _ (of_stated tree atom untimed is) =
-    with_atom (λ tree atom. is_timed_literal tree ≡ false → fact_of tree ≡ fine (fact_from true atom ∷ []))
+    with_atom (λ tree atom. is_timed_literal tree ≡ false → fact_of tree ≡ fine (literal true atom ∷ []))
     (λ at pred i terms atom named read untimed j.
-    (ap (λ k. let r : Read InitItem = elim k [
-      | heads.Not ↦ negated_of pred i terms >>= λ atom. fine (fact_from false atom)
+    (ap (λ k. let r : Read InitFact = elim k [
+      | heads.Not ↦ negated_of pred i terms >>= λ atom. fine (literal false atom)
       | heads.Name ↦ stated_of pred i terms
-      | heads.Other ↦ wrong Shape at >> fine (fact_from true (no_atom pred i))
-      | _ ↦ wrong (Unsupported pred) i >> fine (fact_from true (no_atom pred i))
+      | heads.Other ↦ wrong Shape at >> fine (literal true (no_atom pred i))
+      | _ ↦ wrong (Unsupported pred) i >> fine (literal true (no_atom pred i))
     ] in r) (head_named pred named)
-    ∙ ap (λ k. let r : Read InitItem = elim k [
-      | true ↦ wrong (Unsupported pred) i >> fine (fact_from true (no_atom pred i))
-      | false ↦ atom_of pred i terms >>= λ atom. fine (fact_from true atom)
+    ∙ ap (λ k. let r : Read InitFact = elim k [
+      | true ↦ wrong (Unsupported pred) i >> fine (literal true (no_atom pred i))
+      | false ↦ atom_of pred i terms >>= λ atom. fine (literal true atom)
     ] in r) untimed
-    ∙ λ l. read l >>= λ atom. fine (fact_from true atom)) j >>= λ fact. fine (fact ∷ [])) tree atom is untimed
+    ∙ λ l. read l >>= λ atom. fine (literal true atom)) j >>= λ fact. fine (fact ∷ [])) tree atom is untimed
 fact_reads _ _ (of_denied tree atom i j is) =
-    λ k. (negated_reads (codes "not") j tree atom is k >>= λ atom. fine (fact_from false atom)) >>= λ fact. fine (fact ∷ [])
+    λ k. (negated_reads (codes "not") j tree atom is k >>= λ atom. fine (literal false atom)) >>= λ fact. fine (fact ∷ [])

@@ -7,7 +7,7 @@ use Rattle.wp_syntax.specs.declared.error.ReadKind.TheVariants.{Shape, Unsupport
 use Rattle.wp_syntax.specs.declared.records.Name.{Name}
 use Rattle.wp_syntax.specs.declared.records.Typed.{Typed}
 use Rattle.wp_syntax.specs.declared.records.AtomText.{AtomText}
-use Rattle.wp_syntax.specs.declared.records.InitItem.{InitItem}
+use Rattle.wp_syntax.specs.declared.items.InitFact.{InitFact}
 use Rattle.wp_syntax.specs.declared.records.Problem.{Problem}
 use Rattle.wp_syntax.specs.declared.problem.Entries.{Entries}
 use Rattle.wp_syntax.specs.declared.typing.Role.TheVariants as roles
@@ -100,7 +100,7 @@ moved so_far (Objects objects) entries all free =
       λ it. record { domain = it.domain; requirements = it.requirements; objects = subst P (sym free) it.objects; init = it.init; goal = it.goal },
     )
 moved so_far (Init init) entries all free =
-    let P : Option (List InitItem) → Type 0 = λ o. option_to_list o ++ init ∷ inits_in entries ≡ option_to_list all.init in (
+    let P : Option (List InitFact) → Type 0 = λ o. option_to_list o ++ init ∷ inits_in entries ≡ option_to_list all.init in (
       λ it. record { domain = it.domain; requirements = it.requirements; objects = it.objects; init = subst P free it.init; goal = it.goal },
       λ it. record { domain = it.domain; requirements = it.requirements; objects = it.objects; init = subst P (sym free) it.init; goal = it.goal },
     )
@@ -258,6 +258,8 @@ problem_holds trees none =
       domain = flag_none (domains_in it.entries) entries.domain it.fill.domain;
       requirements = flag_none (flags_in it.entries) entries.requirements it.fill.requirements;
       objects = once_of (objects_in it.entries) entries.objects it.fill.objects;
+      facts = unwrap_or entries.init [];
+      literals = refl;
       init = there_of (inits_in it.entries) entries.init it.fill.init
           (not_faulty (is_none entries.init) (record { kind = Shape; at = outline.value.at }) (none_before no_init.faults _ there));
       goal = there_of (goals_in it.entries) entries.goal it.fill.goal
@@ -320,10 +322,10 @@ problem_reads trees problem is =
       domain = domain.0;
       requirements = requirements.0;
       objects = kept_of (objects_in is.entries);
-      init = Some problem.init;
+      init = Some is.facts;
       goal = Some problem.goal;
     } in
     listed_reads problem.name trees is.rest all problem is.outline
     (entries_read no_entries is.rest is.entries all is.each
     (record { domain = domain.1; requirements = requirements.1; objects = objects.0; init = is.init; goal = is.goal }))
-    refl refl (λ j. record { name = problem.name; objects = objects.1 j; init = problem.init; goal = problem.goal })
+    refl refl (λ j. record { name = problem.name; objects = objects.1 j; init = sym is.literals j; goal = problem.goal })

@@ -17,6 +17,7 @@ use Rattle.wp_syntax.specs.Heads.{part_head_of}
 use Rattle.wp_syntax.specs.Reading.{Read, fine, wrong, wrong_if, ◌>>=◌, ◌>>◌}
 use Rattle.wp_syntax.specs.Named.{has_named, most_declared}
 use Rattle.wp_syntax.specs.Grammar.{name_at, cond_of}
+use Rattle.wp_syntax.specs.Items.{changes_in}
 use Rattle.wp_syntax.specs.Effects.{effect_of}
 use Rattle.wp_syntax.specs.Typing.{typed_of}
 
@@ -59,7 +60,7 @@ action_from name parts = record {
   name = name;
   params = unwrap_or parts.params [];
   pre = unwrap_or parts.pre [];
-  effects = unwrap_or parts.effects [];
+  effects = changes_in (unwrap_or parts.effects []);
 }
 
 abbrev pub is_defined : List ℕ → List ActionText → Bool

@@ -9,11 +9,12 @@ use Rattle.std.specs.Str.{bytes_eq}
 use Rattle.wp_lex.specs.Trees.{Tree, Trees, Leaf, Branch, End, Then}
 use Rattle.wp_syntax.specs.declared.error.ReadKind.TheVariants.{Shape, Unsupported}
 use Rattle.wp_syntax.specs.declared.records.AtomText.{AtomText}
-use Rattle.wp_syntax.specs.declared.records.Effect.{Effect}
-use Rattle.wp_syntax.specs.declared.records.InitItem.{InitItem}
+use Rattle.wp_syntax.specs.declared.items.EffectItem.{EffectItem}
+use Rattle.wp_syntax.specs.declared.items.InitFact.{InitFact}
 use Rattle.wp_syntax.specs.declared.word.Head.TheVariants as heads
 use Rattle.wp_syntax.specs.Word.{starts_with_digit}
 use Rattle.wp_syntax.specs.Heads.{head_of}
+use Rattle.wp_syntax.specs.Items.{change, literal}
 use Rattle.wp_syntax.specs.Reading.{Read, fine, wrong, ◌>>=◌, ◌>>◌}
 use Rattle.wp_syntax.specs.Grammar.{conjunction_of, name_at, atom_of, lone_of}
 
@@ -32,15 +33,15 @@ negated_of word at trees = elim (lone_of trees) [
 ]
 
 -- an effect that is no conjunction, with the place of its list, its first word and that word's place
-abbrev pub plain_effect_of : ℕ → List ℕ → ℕ → Trees → Read (List Effect)
+abbrev pub plain_effect_of : ℕ → List ℕ → ℕ → Trees → Read (List EffectItem)
 plain_effect_of at head i rest = elim (head_of head) [
-  | heads.Not ↦ negated_of head i rest >>= λ atom. fine (record { add = false; atom = atom } ∷ [])
-  | heads.Name ↦ atom_of head i rest >>= λ atom. fine (record { add = true; atom = atom } ∷ [])
+  | heads.Not ↦ negated_of head i rest >>= λ atom. fine (change false atom ∷ [])
+  | heads.Name ↦ atom_of head i rest >>= λ atom. fine (change true atom ∷ [])
   | heads.Other ↦ wrong Shape at >> fine []
   | _ ↦ wrong (Unsupported head) i >> fine []
 ]
 
-abbrev pub effect_of : Tree → Read (List Effect)
+abbrev pub effect_of : Tree → Read (List EffectItem)
 effect_of tree = conjunction_of plain_effect_of tree
 
 -- ( at NUMBER ( .. ) )
@@ -48,25 +49,22 @@ abbrev pub is_timed : List ℕ → Trees → Bool
 is_timed head (Then (Leaf text i) (Then (Branch j trees) End)) = bytes_eq head (codes "at") && starts_with_digit text
 is_timed head trees = false
 
-abbrev pub fact_from : Bool → AtomText → InitItem
-fact_from stated atom = record { stated = stated; atom = atom }
-
-abbrev pub stated_of : List ℕ → ℕ → Trees → Read InitItem
+abbrev pub stated_of : List ℕ → ℕ → Trees → Read InitFact
 stated_of head at rest = elim (is_timed head rest) [
-  | true ↦ wrong (Unsupported head) at >> fine (fact_from true (no_atom head at))
-  | false ↦ atom_of head at rest >>= λ atom. fine (fact_from true atom)
+  | true ↦ wrong (Unsupported head) at >> fine (literal true (no_atom head at))
+  | false ↦ atom_of head at rest >>= λ atom. fine (literal true atom)
 ]
 
 -- an item of :init by its first word, with the place of its list and that word's place
-abbrev pub headed_fact_of : ℕ → List ℕ → ℕ → Trees → Read InitItem
+abbrev pub headed_fact_of : ℕ → List ℕ → ℕ → Trees → Read InitFact
 headed_fact_of at head i rest = elim (head_of head) [
-  | heads.Not ↦ negated_of head i rest >>= λ atom. fine (fact_from false atom)
+  | heads.Not ↦ negated_of head i rest >>= λ atom. fine (literal false atom)
   | heads.Name ↦ stated_of head i rest
-  | heads.Other ↦ wrong Shape at >> fine (fact_from true (no_atom head i))
-  | _ ↦ wrong (Unsupported head) i >> fine (fact_from true (no_atom head i))
+  | heads.Other ↦ wrong Shape at >> fine (literal true (no_atom head i))
+  | _ ↦ wrong (Unsupported head) i >> fine (literal true (no_atom head i))
 ]
 
-abbrev pub fact_of : Tree → Read (List InitItem)
+abbrev pub fact_of : Tree → Read (List InitFact)
 fact_of (Leaf text at) = wrong Shape at >> fine []
 fact_of (Branch at End) = wrong Shape at >> fine []
 fact_of (Branch at (Then (Branch i trees) rest)) = wrong Shape at >> fine []

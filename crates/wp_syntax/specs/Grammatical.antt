@@ -5,8 +5,8 @@ use Rattle.wp_syntax.specs.declared.typing.Role.{Role}
 use Rattle.wp_syntax.specs.declared.records.Typed.{Typed}
 use Rattle.wp_syntax.specs.declared.records.AtomText.{AtomText}
 use Rattle.wp_syntax.specs.declared.records.Cond.{Cond}
-use Rattle.wp_syntax.specs.declared.records.Effect.{Effect}
-use Rattle.wp_syntax.specs.declared.records.InitItem.{InitItem}
+use Rattle.wp_syntax.specs.declared.items.EffectItem.{EffectItem}
+use Rattle.wp_syntax.specs.declared.items.InitFact.{InitFact}
 use Rattle.wp_syntax.specs.declared.records.Domain.{Domain}
 use Rattle.wp_syntax.specs.declared.records.Problem.{Problem}
 use Rattle.wp_syntax.specs.Reading.{fine, each}
@@ -22,8 +22,8 @@ pub record PhrasesAreGrammatical : Type 0 where
   pub lists : (role : Role) (trees : Trees) (typed : List Typed) → (typed_of role [] [] trees ≡ fine typed) ↔ IsTypedList role trees typed
   pub conditions : (tree : Tree) (conds : List Cond) → (cond_of tree ≡ fine conds) ↔ IsCondition tree conds
   pub goals : (tree : Tree) (atoms : List AtomText) → (goal_of tree ≡ fine atoms) ↔ IsGoal tree atoms
-  pub effects : (tree : Tree) (effects : List Effect) → (effect_of tree ≡ fine effects) ↔ IsEffect tree effects
-  pub facts : (trees : Trees) (facts : List InitItem) → (each fact_of trees ≡ fine facts) ↔ Each IsFact trees facts
+  pub effects : (tree : Tree) (items : List EffectItem) → (effect_of tree ≡ fine items) ↔ IsEffect tree items
+  pub facts : (trees : Trees) (facts : List InitFact) → (each fact_of trees ≡ fine facts) ↔ Each IsFact trees facts
 
 -- the same of domains and problems
 pub record TextsAreGrammatical : Type 0 where

@@ -4,6 +4,7 @@ pub mod Faults
 pub mod Reading
 pub mod Named
 pub mod Grammar
+pub mod Items
 pub mod Effects
 pub mod Typing
 pub mod Steps

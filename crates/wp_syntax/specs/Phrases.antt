@@ -16,13 +16,14 @@ use Rattle.wp_syntax.specs.declared.records.Typed.{Typed}
 use Rattle.wp_syntax.specs.declared.records.AtomText.{AtomText}
 use Rattle.wp_syntax.specs.declared.records.Cond.{Cond}
 use Rattle.wp_syntax.specs.declared.records.Cond.TheVariants.{Atom, Same, Differ}
-use Rattle.wp_syntax.specs.declared.records.Effect.{Effect}
-use Rattle.wp_syntax.specs.declared.records.InitItem.{InitItem}
+use Rattle.wp_syntax.specs.declared.items.EffectItem.{EffectItem}
+use Rattle.wp_syntax.specs.declared.items.InitFact.{InitFact}
 use Rattle.wp_syntax.specs.declared.typing.Role.{Role}
 use Rattle.wp_syntax.specs.declared.typing.Role.TheVariants as roles
 use Rattle.wp_syntax.specs.Word.{is_name, is_term, is_variable, is_reserved}
 use Rattle.wp_syntax.specs.Named.{most_params}
 use Rattle.wp_syntax.specs.Grammar.{name_at}
+use Rattle.wp_syntax.specs.Items.{change, literal}
 use Rattle.wp_syntax.specs.Effects.{is_timed}
 use Rattle.wp_syntax.specs.Typing.{with_kinds}
 
@@ -74,24 +75,25 @@ IsCondition tree conds = IsConjunction IsLiteral tree conds
 abbrev pub IsGoal : Tree → List AtomText → Type 0
 IsGoal tree atoms = IsConjunction IsAtom tree atoms
 
-pub data IsChange : Tree → Effect → Type 0 where
-  of_add : (tree : Tree) (atom : AtomText) → IsAtom tree atom → IsChange tree (record { add = true; atom = atom })
+-- an add effect, or a delete effect
+pub data IsChange : Tree → EffectItem → Type 0 where
+  of_add : (tree : Tree) (atom : AtomText) → IsAtom tree atom → IsChange tree (change true atom)
   of_delete : (tree : Tree) (atom : AtomText) (i j : ℕ) → IsAtom tree atom
-      → IsChange (Branch i (Then (Leaf (codes "not") j) (Then tree End))) (record { add = false; atom = atom })
+      → IsChange (Branch i (Then (Leaf (codes "not") j) (Then tree End))) (change false atom)
 
-abbrev pub IsEffect : Tree → List Effect → Type 0
-IsEffect tree effects = IsConjunction IsChange tree effects
+abbrev pub IsEffect : Tree → List EffectItem → Type 0
+IsEffect tree items = IsConjunction IsChange tree items
 
 -- (at NUMBER (..)) is PDDL's timed literal, and no atom
 abbrev pub is_timed_literal : Tree → Bool
 is_timed_literal (Branch at (Then (Leaf head i) rest)) = is_timed head rest
 is_timed_literal tree = false
 
-pub data IsFact : Tree → InitItem → Type 0 where
+pub data IsFact : Tree → InitFact → Type 0 where
   of_stated : (tree : Tree) (atom : AtomText) → is_timed_literal tree ≡ false → IsAtom tree atom
-      → IsFact tree (record { stated = true; atom = atom })
+      → IsFact tree (literal true atom)
   of_denied : (tree : Tree) (atom : AtomText) (i j : ℕ) → IsAtom tree atom
-      → IsFact (Branch i (Then (Leaf (codes "not") j) (Then tree End))) (record { stated = false; atom = atom })
+      → IsFact (Branch i (Then (Leaf (codes "not") j) (Then tree End))) (literal false atom)
 
 pub data IsKind : Tree → List Name → Type 0 where
   of_name : (tree : Tree) (name : Name) → IsWordThat is_name tree name → IsKind tree (name ∷ [])

@@ -16,6 +16,7 @@ use Rattle.wp_syntax.specs.declared.word.ItemHead.TheVariants as item_heads
 use Rattle.wp_syntax.specs.Heads.{item_head_of}
 use Rattle.wp_syntax.specs.Reading.{Read, fine, wrong, wrong_if, ◌>>=◌, ◌>>◌, each}
 use Rattle.wp_syntax.specs.Grammar.{goal_of}
+use Rattle.wp_syntax.specs.Items.{literals_in}
 use Rattle.wp_syntax.specs.Effects.{fact_of}
 use Rattle.wp_syntax.specs.Typing.{typed_of}
 use Rattle.wp_syntax.specs.Outline.{outline_of, title_of, flags_of, only_name_of, end_of}
@@ -80,7 +81,7 @@ abbrev pub problem_from : Name → Entries → Problem
 problem_from name entries = record {
   name = name;
   objects = unwrap_or entries.objects [];
-  init = unwrap_or entries.init [];
+  init = literals_in (unwrap_or entries.init []);
   goal = unwrap_or entries.goal [];
 }
 

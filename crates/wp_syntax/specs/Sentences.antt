@@ -6,8 +6,8 @@ use Rattle.wp_syntax.specs.declared.records.Name.{Name}
 use Rattle.wp_syntax.specs.declared.records.Typed.{Typed}
 use Rattle.wp_syntax.specs.declared.records.AtomText.{AtomText}
 use Rattle.wp_syntax.specs.declared.records.Cond.{Cond}
-use Rattle.wp_syntax.specs.declared.records.Effect.{Effect}
-use Rattle.wp_syntax.specs.declared.records.InitItem.{InitItem}
+use Rattle.wp_syntax.specs.declared.items.EffectItem.{EffectItem}
+use Rattle.wp_syntax.specs.declared.items.InitFact.{InitFact}
 use Rattle.wp_syntax.specs.declared.records.PredText.{PredText}
 use Rattle.wp_syntax.specs.declared.records.ActionText.{ActionText}
 use Rattle.wp_syntax.specs.declared.records.Domain.{Domain}
@@ -16,6 +16,7 @@ use Rattle.wp_syntax.specs.declared.typing.Role.TheVariants as roles
 use Rattle.wp_syntax.specs.Word.{is_name, is_keyword, is_reserved}
 use Rattle.wp_syntax.specs.Named.{most_declared}
 use Rattle.wp_syntax.specs.Grammar.{name_at}
+use Rattle.wp_syntax.specs.Items.{changes_in, literals_in}
 use Rattle.wp_syntax.specs.Phrases.{Each, IsWordThat, IsCondition, IsGoal, IsEffect, IsFact, AreDeclared, IsTypedList}
 
 -- what stands once at most: it is there, or empty where none is
@@ -38,13 +39,13 @@ pub record ArePredicates (trees : Trees) (preds : List PredText) : Type 0 where
 pub data ActionPart : Type 0 where
   Parameters : (params : List Typed) → ActionPart
   Precondition : (conds : List Cond) → ActionPart
-  Effects : (effects : List Effect) → ActionPart
+  Effects : (items : List EffectItem) → ActionPart
 
 pub data IsPart : List ℕ → Tree → ActionPart → Type 0 where
   of_parameters : (at : ℕ) (trees : Trees) (params : List Typed) → IsTypedList roles.Action trees params
       → IsPart (codes ":parameters") (Branch at trees) (Parameters params)
   of_precondition : (tree : Tree) (conds : List Cond) → IsCondition tree conds → IsPart (codes ":precondition") tree (Precondition conds)
-  of_effect : (tree : Tree) (effects : List Effect) → IsEffect tree effects → IsPart (codes ":effect") tree (Effects effects)
+  of_effect : (tree : Tree) (items : List EffectItem) → IsEffect tree items → IsPart (codes ":effect") tree (Effects items)
 
 -- a word and what follows it, again and again
 abbrev pub AreParts : Trees → List ActionPart → Type 0
@@ -56,26 +57,28 @@ abbrev pub params_in : List ActionPart → List (List Typed)
 params_in [] = []
 params_in (Parameters params ∷ parts) = params ∷ params_in parts
 params_in (Precondition conds ∷ parts) = params_in parts
-params_in (Effects effects ∷ parts) = params_in parts
+params_in (Effects items ∷ parts) = params_in parts
 
 abbrev pub conds_in : List ActionPart → List (List Cond)
 conds_in [] = []
 conds_in (Parameters params ∷ parts) = conds_in parts
 conds_in (Precondition conds ∷ parts) = conds ∷ conds_in parts
-conds_in (Effects effects ∷ parts) = conds_in parts
+conds_in (Effects items ∷ parts) = conds_in parts
 
-abbrev pub effects_in : List ActionPart → List (List Effect)
+abbrev pub effects_in : List ActionPart → List (List EffectItem)
 effects_in [] = []
 effects_in (Parameters params ∷ parts) = effects_in parts
 effects_in (Precondition conds ∷ parts) = effects_in parts
-effects_in (Effects effects ∷ parts) = effects ∷ effects_in parts
+effects_in (Effects items ∷ parts) = items ∷ effects_in parts
 
 pub record HasParts (trees : Trees) (action : ActionText) : Type 0 where
   pub parts : List ActionPart
   pub each : AreParts trees parts
   pub params : IsOnce (params_in parts) action.params
   pub pre : IsOnce (conds_in parts) action.pre
-  pub effects : IsOnce (effects_in parts) action.effects
+  pub items : List EffectItem
+  pub effects : IsOnce (effects_in parts) items
+  pub changes : action.effects ≡ changes_in items
 
 -- NAME part*
 abbrev pub IsAction : Trees → ActionText → Type 0
@@ -171,7 +174,7 @@ pub data Entry : Type 0 where
   OfDomain : Entry
   Flags : Entry
   Objects : (objects : List Typed) → Entry
-  Init : (init : List InitItem) → Entry
+  Init : (init : List InitFact) → Entry
   Goal : (goal : List AtomText) → Entry
 
 -- what an item has behind its word
@@ -179,7 +182,7 @@ pub data HasEntry : List ℕ → Trees → Entry → Type 0 where
   of_domain : (tree : Tree) (name : Name) → IsWordThat is_name tree name → HasEntry (codes ":domain") (Then tree End) OfDomain
   of_flags : (trees : Trees) → AreFlags trees → HasEntry (codes ":requirements") trees Flags
   of_objects : (trees : Trees) (typed : List Typed) → IsTypedList roles.Names trees typed → HasEntry (codes ":objects") trees (Objects typed)
-  of_init : (trees : Trees) (facts : List InitItem) → Each IsFact trees facts → HasEntry (codes ":init") trees (Init facts)
+  of_init : (trees : Trees) (facts : List InitFact) → Each IsFact trees facts → HasEntry (codes ":init") trees (Init facts)
   of_goal : (tree : Tree) (atoms : List AtomText) → IsGoal tree atoms → HasEntry (codes ":goal") (Then tree End) (Goal atoms)
 
 abbrev pub IsEntry : Tree → Entry → Type 0
@@ -210,7 +213,7 @@ objects_in (Objects objects ∷ entries) = objects ∷ objects_in entries
 objects_in (Init init ∷ entries) = objects_in entries
 objects_in (Goal goal ∷ entries) = objects_in entries
 
-abbrev pub inits_in : List Entry → List (List InitItem)
+abbrev pub inits_in : List Entry → List (List InitFact)
 inits_in [] = []
 inits_in (OfDomain ∷ entries) = inits_in entries
 inits_in (Flags ∷ entries) = inits_in entries
@@ -234,5 +237,7 @@ pub record IsProblem (trees : Trees) (problem : Problem) : Type 0 where
   pub domain : IsOnce (domains_in entries) []
   pub requirements : IsOnce (flags_in entries) []
   pub objects : IsOnce (objects_in entries) problem.objects
-  pub init : inits_in entries ≡ problem.init ∷ []
+  pub facts : List InitFact
+  pub init : inits_in entries ≡ facts ∷ []
+  pub literals : problem.init ≡ literals_in facts
   pub goal : goals_in entries ≡ problem.goal ∷ []

@@ -12,7 +12,8 @@ ghost use Rattle.wp_syntax.specs.Actions.{no_parts, part_of, bare_part_of, value
 use crate::atom::{name, place_of};
 use crate::conjunction::conjunction;
 use crate::error::{Fault, ReadError, ReadKind, bad, shape, unsupported, wrong};
-use crate::lists::{Conds, Effects, TypedList};
+use crate::items::changes_in;
+use crate::lists::{Conds, EffectItems, TypedList};
 use crate::named::{MOST_DECLARED, has_named};
 use crate::records::{ActionText, Name};
 use crate::typing::{Role, typed_list};
@@ -26,7 +27,7 @@ use wp_lex::{Item, Node, next};
 pub struct Parts {
     pub params: Option<TypedList>,
     pub pre: Option<Conds>,
-    pub effects: Option<Effects>,
+    pub effects: Option<EffectItems>,
 }
 
 fn precondition(alloc: Global, node: Node<'_>) -> Result<Conds, ReadError>
@@ -37,12 +38,12 @@ fn precondition(alloc: Global, node: Node<'_>) -> Result<Conds, ReadError>
     Ok(Conds::of_vec(conds))
 }
 
-fn effects(alloc: Global, node: Node<'_>) -> Result<Effects, ReadError>
+fn effects(alloc: Global, node: Node<'_>) -> Result<EffectItems, ReadError>
     ensures { Gives result (effect_of (tree_of node.entry)) }
 {
-    let mut effects = Vec::new(alloc);
-    conjunction(alloc, node, &mut effects)?;
-    Ok(Effects::of_vec(effects))
+    let mut items = Vec::new(alloc);
+    conjunction(alloc, node, &mut items)?;
+    Ok(EffectItems::of_vec(items))
 }
 
 // A part by its word and the list behind it.
@@ -144,20 +145,21 @@ fn all_parts(alloc: Global, items: &[Item]) -> Result<Parts, ReadError>
     Ok(so_far)
 }
 
-fn action_from(alloc: Global, name: Name, parts: Parts) -> ActionText
-    ensures { result ≡ action_from name parts }
+fn action_from(alloc: Global, name: Name, parts: Parts) -> Result<ActionText, AllocError>
+    ensures { IfOk result (λ action. action ≡ action_from name parts) }
 {
     let Parts {
         params,
         pre,
         effects,
     } = parts;
-    ActionText {
+    let items = effects.unwrap_or(EffectItems::of_vec(Vec::new(alloc)));
+    Ok(ActionText {
         name,
         params: params.unwrap_or(TypedList::of_vec(Vec::new(alloc))),
         pre: pre.unwrap_or(Conds::of_vec(Vec::new(alloc))),
-        effects: effects.unwrap_or(Effects::of_vec(Vec::new(alloc))),
-    }
+        effects: changes_in(alloc, items)?,
+    })
 }
 
 // A name that may be given after those before it.
@@ -199,5 +201,5 @@ pub fn action(
     };
     defined(before, text, place)?;
     let parts = all_parts(alloc, rest)?;
-    Ok(action_from(alloc, name(alloc, text, place)?, parts))
+    Ok(action_from(alloc, name(alloc, text, place)?, parts)?)
 }

@@ -4,12 +4,14 @@ ghost use Rattle.std.specs.Prelude.{◌≡◌, List};
 ghost use Rattle.wp_lex.specs.Node.{tree_of};
 ghost use Rattle.wp_lex.specs.Trees.{trees_of};
 ghost use Rattle.wp_syntax.specs.Reading.{Adds, Gives, each};
+ghost use Rattle.wp_syntax.specs.Items.{change, literal};
 ghost use Rattle.wp_syntax.specs.Effects.{negated_of, is_timed, stated_of, headed_fact_of, fact_of};
 
 use crate::atom::{atom, lone, place_of};
 use crate::conjunction::Conjunct;
 use crate::error::{ReadError, shape, unsupported};
-use crate::lists::InitItems;
+use crate::items::{EffectItem, InitFact};
+use crate::lists::InitFacts;
 use crate::records::{AtomText, Effect, InitItem};
 use crate::word::{Head, head_of, is_word, starts_with_digit};
 use std::alloc::Global;
@@ -29,7 +31,15 @@ fn negated(alloc: Global, word: &Text, at: u64, items: &[Item]) -> Result<AtomTe
     }
 }
 
-impl Conjunct for Effect {
+fn change(add: bool, atom: AtomText) -> EffectItem
+    ensures { result ≡ change add atom }
+{
+    EffectItem::Change {
+        effect: Effect { add, atom },
+    }
+}
+
+impl Conjunct for EffectItem {
     ghost use Rattle.wp_syntax.specs.Effects.{plain_effect_of};
 
     ghost plain_of = { plain_effect_of };
@@ -40,17 +50,17 @@ impl Conjunct for Effect {
         head: &Text,
         place: u64,
         items: &[Item],
-        out: &mut Vec<Effect>,
+        out: &mut Vec<EffectItem>,
     ) -> Result<(), ReadError> {
         match head_of(head) {
             Head::Not => {
                 let atom = negated(alloc, head, place, items)?;
-                out.push(Effect { add: false, atom })?;
+                out.push(change(false, atom))?;
                 Ok(())
             }
             Head::Name => {
                 let atom = atom(alloc, head, place, items)?;
-                out.push(Effect { add: true, atom })?;
+                out.push(change(true, atom))?;
                 Ok(())
             }
             Head::Other => Err(shape(at)),
@@ -75,14 +85,22 @@ fn is_timed(head: &Text, items: &[Item]) -> bool
     }
 }
 
-fn stated(alloc: Global, head: &Text, at: u64, items: &[Item]) -> Result<InitItem, ReadError>
+fn literal(stated: bool, atom: AtomText) -> InitFact
+    ensures { result ≡ literal stated atom }
+{
+    InitFact::Literal {
+        item: InitItem { stated, atom },
+    }
+}
+
+fn stated(alloc: Global, head: &Text, at: u64, items: &[Item]) -> Result<InitFact, ReadError>
     ensures { Gives result (stated_of head.now at (trees_of items.now)) }
 {
     if is_timed(head, items) {
         return Err(unsupported(alloc, head, at)?);
     }
     let atom = atom(alloc, head, at, items)?;
-    Ok(InitItem { stated: true, atom })
+    Ok(literal(true, atom))
 }
 
 fn headed_fact(
@@ -91,16 +109,13 @@ fn headed_fact(
     head: &Text,
     place: u64,
     items: &[Item],
-) -> Result<InitItem, ReadError>
+) -> Result<InitFact, ReadError>
     ensures { Gives result (headed_fact_of at head.now place (trees_of items.now)) }
 {
     match head_of(head) {
         Head::Not => {
             let atom = negated(alloc, head, place, items)?;
-            Ok(InitItem {
-                stated: false,
-                atom,
-            })
+            Ok(literal(false, atom))
         }
         Head::Name => stated(alloc, head, place, items),
         Head::Other => Err(shape(at)),
@@ -108,7 +123,7 @@ fn headed_fact(
     }
 }
 
-fn fact(alloc: Global, node: Node<'_>, out: &mut Vec<InitItem>) -> Result<(), ReadError>
+fn fact(alloc: Global, node: Node<'_>, out: &mut Vec<InitFact>) -> Result<(), ReadError>
     ensures { Adds result out.old.items out.new.items (fact_of (tree_of node.entry)) }
 {
     let Node::List { at, inner } = node else {
@@ -123,7 +138,7 @@ fn fact(alloc: Global, node: Node<'_>, out: &mut Vec<InitItem>) -> Result<(), Re
 
 /// The facts of `:init`.
 #[tactic(auto, using(crate::proofs::Firsts::fails_append))]
-pub fn facts(alloc: Global, items: &[Item]) -> Result<InitItems, ReadError>
+pub fn facts(alloc: Global, items: &[Item]) -> Result<InitFacts, ReadError>
     ensures { Gives result (each fact_of (trees_of items.now)) }
 {
     let mut facts = Vec::new(alloc);
@@ -132,5 +147,5 @@ pub fn facts(alloc: Global, items: &[Item]) -> Result<InitItems, ReadError>
         fact(alloc, node, &mut facts)?;
         rest = after;
     }
-    Ok(InitItems::of_vec(facts))
+    Ok(InitFacts::of_vec(facts))
 }

@@ -15,6 +15,7 @@ mod domain;
 mod effect;
 mod error;
 mod goal;
+mod items;
 mod laws;
 mod lists;
 mod named;

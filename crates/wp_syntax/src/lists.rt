@@ -2,6 +2,7 @@
 
 ghost use Rattle.std.specs.Prelude.{◌≡◌, ◌++◌, ◌∷◌, [], IfOk, OnOk};
 
+use crate::items::{EffectItem, InitFact};
 use crate::records::{ActionText, AtomText, Cond, Effect, InitItem, Name, PredText, Typed};
 use std::alloc::{AllocError, Global};
 use std::marker::Model;
@@ -338,5 +339,65 @@ impl InitItems {
         ensures { result.now ≡ self.now }
     {
         self.items.as_slice()
+    }
+}
+
+/// A list of the items of an effect.
+#[derive(Drop)]
+pub struct EffectItems {
+    items: Vec<EffectItem>,
+}
+
+impl Model for EffectItems {
+    ghost use Rattle.std.specs.Prelude.{List};
+    ghost use Rattle.wp_syntax.specs.declared.items.EffectItem.{EffectItem};
+
+    ghost Value = { List EffectItem };
+
+    ghost view = { λ a. a.items.items };
+}
+
+impl EffectItems {
+    pub fn of_vec(items: Vec<EffectItem>) -> EffectItems
+        ensures { result ≡ items.items }
+    {
+        EffectItems { items }
+    }
+
+    pub fn into_vec(self) -> Vec<EffectItem>
+        ensures { result.items ≡ self }
+    {
+        let EffectItems { items } = self;
+        items
+    }
+}
+
+/// A list of the items of `:init`.
+#[derive(Drop)]
+pub struct InitFacts {
+    items: Vec<InitFact>,
+}
+
+impl Model for InitFacts {
+    ghost use Rattle.std.specs.Prelude.{List};
+    ghost use Rattle.wp_syntax.specs.declared.items.InitFact.{InitFact};
+
+    ghost Value = { List InitFact };
+
+    ghost view = { λ a. a.items.items };
+}
+
+impl InitFacts {
+    pub fn of_vec(items: Vec<InitFact>) -> InitFacts
+        ensures { result ≡ items.items }
+    {
+        InitFacts { items }
+    }
+
+    pub fn into_vec(self) -> Vec<InitFact>
+        ensures { result.items ≡ self }
+    {
+        let InitFacts { items } = self;
+        items
     }
 }

@@ -1,21 +1,22 @@
 //! Problems.
 
-ghost use Rattle.std.specs.Prelude.{◌≡◌, List, [], codes};
+ghost use Rattle.std.specs.Prelude.{◌≡◌, List, [], codes, IfOk};
 ghost use Rattle.wp_lex.specs.Node.{tree_of};
 ghost use Rattle.wp_lex.specs.Trees.{trees_of};
 ghost use Rattle.wp_syntax.specs.Reading.{Gives, Passes, Turns};
-ghost use Rattle.wp_syntax.specs.Problems.{no_entries, domain_name_of, only_goal_of, goal_entry_of, headed_entry_of, entry_of, entries_of, complete_of, complete_entries_of, listed_of, problem_from};
+ghost use Rattle.wp_syntax.specs.Problems.{no_entries, domain_name_of, only_goal_of, goal_entry_of, headed_entry_of, entry_of, entries_of, complete_of, complete_entries_of, listed_of, problem_from, problem_of};
 
 use crate::atom::place_of;
 use crate::conjunction::conjunction;
 use crate::effect::facts;
 use crate::error::{Fault, ReadError, ReadKind, bad, shape, unsupported, wrong};
-use crate::lists::{AtomTexts, InitItems, TypedList};
+use crate::items::literals_in;
+use crate::lists::{AtomTexts, InitFacts, TypedList};
 use crate::outline::{end, flags, only_name, outer_list, title};
 use crate::records::{Name, Problem};
 use crate::typing::{Role, typed_list};
 use crate::word::{ItemHead, item_head_of};
-use std::alloc::Global;
+use std::alloc::{AllocError, Global};
 use wp_edge::Text;
 use wp_lex::{Item, Node, next};
 
@@ -25,7 +26,7 @@ pub struct Entries {
     pub domain: bool,
     pub requirements: bool,
     pub objects: Option<TypedList>,
-    pub init: Option<InitItems>,
+    pub init: Option<InitFacts>,
     pub goal: Option<AtomTexts>,
 }
 
@@ -163,7 +164,7 @@ fn complete_entries(alloc: Global, at: u64, items: &[Item]) -> Result<Entries, R
 }
 
 // A problem's name and its items.
-pub fn listed(alloc: Global, items: &[Item]) -> Result<(Name, Entries), ReadError>
+fn listed(alloc: Global, items: &[Item]) -> Result<(Name, Entries), ReadError>
     ensures { Gives result (listed_of (trees_of items.now)) }
 {
     let outline = outer_list(items)?;
@@ -172,8 +173,8 @@ pub fn listed(alloc: Global, items: &[Item]) -> Result<(Name, Entries), ReadErro
     Ok((name, entries))
 }
 
-pub fn problem_from(alloc: Global, name: Name, entries: Entries) -> Problem
-    ensures { result ≡ problem_from name entries }
+fn problem_from(alloc: Global, name: Name, entries: Entries) -> Result<Problem, AllocError>
+    ensures { IfOk result (λ problem. problem ≡ problem_from name entries) }
 {
     let Entries {
         domain: _,
@@ -182,10 +183,19 @@ pub fn problem_from(alloc: Global, name: Name, entries: Entries) -> Problem
         init,
         goal,
     } = entries;
-    Problem {
+    let facts = init.unwrap_or(InitFacts::of_vec(Vec::new(alloc)));
+    Ok(Problem {
         name,
         objects: objects.unwrap_or(TypedList::of_vec(Vec::new(alloc))),
-        init: init.unwrap_or(InitItems::of_vec(Vec::new(alloc))),
+        init: literals_in(alloc, facts)?,
         goal: goal.unwrap_or(AtomTexts::of_vec(Vec::new(alloc))),
-    }
+    })
+}
+
+/// The record of a problem.
+pub fn problem(alloc: Global, items: &[Item]) -> Result<Problem, ReadError>
+    ensures { Gives result (problem_of (trees_of items.now)) }
+{
+    let (name, entries) = listed(alloc, items)?;
+    Ok(problem_from(alloc, name, entries)?)
 }

@@ -11,7 +11,7 @@ ghost use Rattle.wp_syntax.specs.Problems.{problem_of};
 
 use crate::domain::{domain_from, sectioned};
 use crate::error::{Fault, Part, PddlError, PddlKind, ReadError, ReadKind};
-use crate::problem::{listed, problem_from};
+use crate::problem::problem;
 use crate::records::{Domain, Problem};
 use std::alloc::Global;
 use wp_lex::Tree;
@@ -66,8 +66,8 @@ pub fn read_problem(alloc: Global, tree: &Tree) -> Result<Problem, PddlError>
     ensures refuses { (fault : Wrong) → first (problem_of (trees_of tree.now)).faults ≡ Some fault
         → IsAnswer result (Err (refusal_at Part.Problem fault)) }
 {
-    match listed(alloc, tree.items().as_slice()) {
+    match problem(alloc, tree.items().as_slice()) {
         Err(error) => Err(error_of(Part::Problem, error)),
-        Ok((name, entries)) => Ok(problem_from(alloc, name, entries)),
+        Ok(problem) => Ok(problem),
     }
 }

@@ -1,4 +1,5 @@
 pub mod Triangles
 pub mod CountLemmas
 pub mod PlaceLemmas
+pub mod PlacingLemmas
 mod Rows

@@ -9,10 +9,10 @@ use Rattle.wp_tuples.proofs.Triangles.{triangle, within_row, same_row, row_of}
 use Rattle.wp_tuples.proofs.CountLemmas.{length-tuples_one, length-tuples_two}
 
 -- ---- the sets of one and of two numbers of a range
-abbrev IsSingle : ℕ → ℕ → List ℕ → Type 0
+abbrev pub IsSingle : ℕ → ℕ → List ℕ → Type 0
 IsSingle from count tuple = (p : ℕ) × (from ≤ p) × (p < from + count) × (tuple ≡ p ∷ [])
 
-abbrev IsPair : ℕ → ℕ → List ℕ → Type 0
+abbrev pub IsPair : ℕ → ℕ → List ℕ → Type 0
 IsPair from count tuple = (p q : ℕ) × (from ≤ p) × (p < q) × (q < from + count) × (tuple ≡ p ∷ q ∷ [])
 
 single_from : (from count : ℕ) (tuple : List ℕ) → In tuple (sets_of 1 (range_with_len from count)) → IsSingle from count tuple
@@ -66,13 +66,13 @@ ones n = sets_of 1 (range_with_len 0 n)
 abbrev twos : ℕ → List (List ℕ)
 twos n = sets_of 2 (range_with_len 0 n)
 
-one_tuple : (n : ℕ) (tuple : List ℕ) → Contains (tuples_in 1 n) tuple → IsSingle 0 n tuple
+pub one_tuple : (n : ℕ) (tuple : List ℕ) → Contains (tuples_in 1 n) tuple → IsSingle 0 n tuple
 one_tuple n tuple h = ⊎_elim
     (λ (there : In tuple (ones n)). single_from 0 n tuple there)
     (λ (none : ⊥). absurd none)
     (In-append_cases (ones n) [] tuple (In-from_Contains tuple (tuples_in 1 n) h))
 
-two_tuple : (n : ℕ) (tuple : List ℕ) → Contains (tuples_in 2 n) tuple → IsSingle 0 n tuple ⊎ IsPair 0 n tuple
+pub two_tuple : (n : ℕ) (tuple : List ℕ) → Contains (tuples_in 2 n) tuple → IsSingle 0 n tuple ⊎ IsPair 0 n tuple
 two_tuple n tuple h = ⊎_elim
     (λ (single : In tuple (ones n)). inl (single_from 0 n tuple single))
     (λ (later : In tuple (twos n ++ [])). ⊎_elim

@@ -1,1 +1,2 @@
 pub mod TuplePlaces
+pub mod Placing

@@ -1,10 +1,12 @@
-//! The index of tuples.
-ghost use Rattle.std.specs.Prelude.{◌≡◌, ℕ, ◌+◌, ◌-◌, ◌*◌, ◌/◌, ◌^◌, ◌<◌, ◌≤◌, [], ◌∷◌, length};
+//! The index of all tuples.
+ghost use Rattle.std.specs.Prelude.{◌≡◌, ◌+◌, ◌-◌, ◌*◌, ◌/◌, ◌^◌, ◌<◌, ◌≤◌, [], ◌∷◌, length};
 ghost use Rattle.wp_tuples.specs.TuplePlaces.{place_of, tuples_of};
+ghost use Rattle.wp_tuples.specs.Placing.{AreApart, all_placed};
 
+use crate::places::Places;
 use std::marker::Model;
 
-/// The places of the sets of 1 to `width` of the atoms below a number.
+/// The places of the sets of 1 to `width` of the atoms below a number. Every pair is counted.
 #[derive(Drop)]
 pub struct TupleIndex {
     atoms: u32,
@@ -31,21 +33,21 @@ impl TupleIndex {
     {
         TupleIndex { atoms, width }
     }
+}
 
-    /// How many atoms a tuple may have.
-    pub fn width(&self) -> u8
-        ensures value { result ≡ self.now.width }
-        ensures range { (1 ≤ result) × (result ≤ 2) }
-    {
+impl Places for TupleIndex {
+    ghost places = { all_placed };
+
+    fn width(&self) -> u8 {
         self.width
     }
 
-    /// How many tuples there are.
-    pub fn len(&self) -> u64
+    fn len(&self) -> u64
         ensures tuples { result ≡ length (tuples_of self.now) }
         ensures singles { self.now.width ≡ 1 → result ≡ self.now.atoms }
         ensures pairs { self.now.width ≡ 2 → result ≡ self.now.atoms + self.now.atoms * (self.now.atoms - 1) / 2 }
         ensures below { result < 2 ^ 32 }
+        ensures apart { AreApart (all_placed self.now) }
     {
         let atoms = u64::from(self.atoms);
         if self.width == 1 {
@@ -54,19 +56,18 @@ impl TupleIndex {
         atoms + pairs_below(atoms)
     }
 
-    /// The place of a single atom.
-    pub fn atom_place(&self, p: u32) -> u64
+    fn atom_place(&self, p: u32) -> u64
+        requires { p < self.now.atoms }
         ensures place { result ≡ place_of self.now.atoms (p ∷ []) }
-        ensures within { p < self.now.atoms → result < length (tuples_of self.now) }
+        ensures within { result < length (tuples_of self.now) }
     {
         // The width is at hand by this look at it: with none, no place would be within.
         let _ = &self.width;
         u64::from(p)
     }
 
-    /// The place of a pair of atoms.
     // Places grow with the greater atom first, so the pairs of an atom with those before it lie together.
-    pub fn pair_place(&self, p: u32, q: u32) -> u64
+    fn pair_place(&self, p: u32, q: u32) -> u64
         requires width { self.now.width ≡ 2 }
         requires order { p < q }
         requires atom { q < self.now.atoms }
@@ -74,17 +75,6 @@ impl TupleIndex {
         ensures within { result < length (tuples_of self.now) }
     {
         u64::from(self.atoms) + pairs_below(u64::from(q)) + u64::from(p)
-    }
-
-    /// Where the pairs of an atom with the lesser ones begin: the place of the pair with p is this and p.
-    pub fn pair_row(&self, q: u32) -> u64
-        requires width { self.now.width ≡ 2 }
-        requires atom { q < self.now.atoms }
-        ensures places { (p : ℕ) → place_of self.now.atoms (p ∷ q ∷ []) ≡ result + p }
-        ensures within { (p : ℕ) → p < q → result + p < length (tuples_of self.now) }
-        ensures small { result < 2 ^ 32 }
-    {
-        u64::from(self.atoms) + pairs_below(u64::from(q))
     }
 }
 

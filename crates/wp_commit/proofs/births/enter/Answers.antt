@@ -1,66 +1,71 @@
-use Rattle.std.proofs.Common.{◌++◌, refl, ap, ◌∙◌, subst}
-use Rattle.wp_tuples.specs.TuplePlaces.{Indexed}
+use Rattle.std.proofs.Common.{◌≡◌, ◌++◌, refl, sym, ap, ◌∙◌, subst}
+use Rattle.wp_tuples.specs.Placing.{Placing, all_placed}
+use Rattle.wp_novel.specs.NoveltyTables.{placed}
 use Rattle.wp_novel.specs.StandsFor.{StandsFor}
+use Rattle.wp_nodes.specs.declared.kept.Kept.{Kept}
 use Rattle.wp_plain.specs.Nodes.{generated_in}
 use Rattle.wp_plain.specs.Explored.{all_numbered}
+use Rattle.wp_commit.specs.Entering.{StandsForEarlier}
 use Rattle.wp_commit.specs.Expansions.{brood_of}
-use Rattle.wp_commit.proofs.ExpansionLemmas.{all-open, in_hand, laws_of, last-before, newborns-here, sizes-fit}
+use Rattle.wp_commit.proofs.ExpansionLemmas.{can-born, in_hand, laws_of, last-before, newborns-here, some_same, stands-earlier}
 use Rattle.wp_commit.proofs.births.enter.Goals as goal
-
-pub number_all-requires-clause-open : goal.number_all-requires-clause-open
-number_all-requires-clause-open g c =
-    let a = c.args.run.now in
-    let s = c.args.searched.now in
-    let tables = c.args.tables.now in
-    let x = c.args.expansion in
-    let e = c.requires.evaluated in
-    let taken = c.requires.taken in
-    all-open a.task a.settings s tables c.args.number e.node (brood_of a.task s.nodes e.node) x.fresh.items x.pairs.items
-    (in_hand a.task s tables c.args.number x (laws_of c.counters_are_carried.ensures.children c.children_are_numbered.ensures c.nodes_are_numbered.ensures) e) taken.0 taken.1 taken.2
-    c.open_all.new.tables c.in_ok-open_all.ensures.pairs
 
 pub open_all-requires-clause-home : goal.open_all-requires-clause-home
 open_all-requires-clause-home g c = c.requires.taken.2.holds.words.home
 
-pub number_all-requires-clause-sizes : goal.number_all-requires-clause-sizes
-number_all-requires-clause-sizes g c =
+pub number_all-requires-clause-ready : goal.number_all-requires-clause-ready
+number_all-requires-clause-ready g c =
     let a = c.args.run.now in
     let s = c.args.searched.now in
-    let tables = c.args.tables.now in
+    let tables = placed all_placed c.args.tables.now in
     let x = c.args.expansion in
     let e = c.requires.evaluated in
     let taken = c.requires.taken in
-    sizes-fit a.task a.settings s tables c.args.number e.node (brood_of a.task s.nodes e.node) x.fresh.items x.pairs.items
+    can-born a.task a.settings s tables c.args.number e.node (brood_of a.task s.nodes e.node) x.children.items x.pairs.items
     (in_hand a.task s tables c.args.number x (laws_of c.counters_are_carried.ensures.children c.children_are_numbered.ensures c.nodes_are_numbered.ensures) e) taken.0 taken.1 taken.2
-    c.open_all.new.tables.index c.in_ok-open_all.ensures.index
+    (placed all_placed c.open_all.new.tables) c.in_ok-open_all.ensures.pairs c.in_ok-open_all.ensures.index
 
 pub number_all-requires-clause-later : goal.number_all-requires-clause-later
 number_all-requires-clause-later g c =
     let a = c.args.run.now in
     let s = c.args.searched.now in
-    let tables = c.args.tables.now in
+    let tables = placed all_placed c.args.tables.now in
     let x = c.args.expansion in
     let e = c.requires.evaluated in
     let taken = c.requires.taken in
-    last-before a.task a.settings s tables c.args.number e.node (brood_of a.task s.nodes e.node) x.fresh.items x.pairs.items
+    last-before a.task a.settings s tables c.args.number e.node (brood_of a.task s.nodes e.node) x.children.items x.pairs.items
     (in_hand a.task s tables c.args.number x (laws_of c.counters_are_carried.ensures.children c.children_are_numbered.ensures c.nodes_are_numbered.ensures) e) taken.0 taken.1 taken.2
     c.open_all.new.tables.last c.in_ok-open_all.ensures.last
+
+pub number_all-requires-clause-earlier : goal.number_all-requires-clause-earlier
+number_all-requires-clause-earlier g c =
+    let a = c.args.run.now in
+    let s = c.args.searched.now in
+    let tables = placed all_placed c.args.tables.now in
+    let opened = placed all_placed c.open_all.new.tables in
+    let x = c.args.expansion in
+    let e = c.requires.evaluated in
+    let taken = c.requires.taken in
+    subst (λ (k : Kept). StandsForEarlier s k opened) (sym (some_same c.node_at-parent.result.now e.node _ c.node_at-parent.ensures.node e.found))
+    (stands-earlier a.task a.settings s tables c.args.number e.node (brood_of a.task s.nodes e.node) x.children.items x.pairs.items
+    (in_hand a.task s tables c.args.number x (laws_of c.counters_are_carried.ensures.children c.children_are_numbered.ensures c.nodes_are_numbered.ensures) e) taken.0 taken.1 taken.2
+    opened (c.in_ok-open_all.ensures.stands (generated_in taken.0.nodes) taken.2.holds.words.births))
 
 pub returns : goal.returns
 returns g c m node at =
     let a = c.args.run.now in
     let s = c.args.searched.now in
-    let tables = c.args.tables.now in
+    let tables = placed all_placed c.args.tables.now in
     let x = c.args.expansion in
     let e = c.requires.evaluated in
     let births = c.in_ok-open_all.ensures.stands (generated_in m.nodes) at.holds.words.births in
-    let width = ap (λ (i : Indexed). i.width) (c.in_ok-open_all.ensures.index ∙ at.holds.words.index) in
+    let width = ap (λ (i : Placing). i.width) c.in_ok-open_all.ensures.index ∙ at.holds.words.index.width in
     record {
-      newborns = newborns-here a.task a.settings s tables c.args.number e.node (brood_of a.task s.nodes e.node) x.fresh.items x.pairs.items
+      newborns = newborns-here a.task a.settings s tables c.args.number e.node (brood_of a.task s.nodes e.node) x.children.items x.pairs.items
           (in_hand a.task s tables c.args.number x (laws_of c.counters_are_carried.ensures.children c.children_are_numbered.ensures c.nodes_are_numbered.ensures) e) m node at
-          c.open_all.new.tables.index.width c.in_ok-newborns.newborns.items width (c.in_ok-newborns.ensures.newborns (generated_in m.nodes) births);
+          (placed all_placed c.open_all.new.tables).index.width c.in_ok-newborns.newborns.items width (c.in_ok-newborns.ensures.newborns (generated_in m.nodes) births);
       repeats = refl;
-      births = subst (λ i. StandsFor c.number_all.new.tables (generated_in m.nodes ++ all_numbered i x.fresh.items)) at.holds.counts.numbered
+      births = subst (λ i. StandsFor (placed all_placed c.number_all.new.tables) (generated_in m.nodes ++ all_numbered i x.children.items)) at.holds.counts.numbered
           (c.in_ok-newborns.ensures.stands (generated_in m.nodes) births);
       pairs = c.in_ok-newborns.ensures.pairs ∙ c.in_ok-open_all.ensures.pairs;
       home = c.in_ok-newborns.ensures.home;

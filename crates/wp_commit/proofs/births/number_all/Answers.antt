@@ -1,61 +1,49 @@
-use Rattle.std.proofs.Common.{◌≡◌, ◌<◌, ◌^◌, IfSome, length, sym, ap, ◌∙◌, subst}
-use Rattle.std.specs.List.{All, AllPairs}
+use Rattle.std.proofs.Common.{◌≡◌, ◌++◌, ℕ, length, sym, ap, ◌∙◌, subst}
+use Rattle.std.specs.List.{All}
 use Rattle.std.proofs.lemmas.List.{length-map}
-use Rattle.std.proofs.lemmas.List.Elements.{All-weaker}
-use Rattle.wp_task.specs.Novelty.{Generated}
-use Rattle.wp_tuples.specs.TuplePlaces.{Indexed}
-use Rattle.wp_novel.specs.NoveltyTables.{is_among, IsOpen}
+use Rattle.wp_tuples.specs.Placing.{all_placed}
+use Rattle.wp_novel.specs.Births.{BirthView, nodes_of}
+use Rattle.wp_novel.specs.NoveltyTables.{placed}
+use Rattle.wp_novel.specs.StandsFor.{StandsFor}
 use Rattle.wp_plain.specs.Explored.{all_numbered}
 use Rattle.wp_commit.specs.Newborns.{rest_of}
-use Rattle.wp_commit.proofs.BirthLemmas.{births_open, births_sized, births_below, births_later, births_rising}
-use Rattle.wp_commit.proofs.ConditionLemmas.{length-numbered}
+use Rattle.wp_commit.specs.Entering.{IsFresh, CanBeAsked}
+use Rattle.wp_commit.proofs.BirthLemmas.{count-births, births_ready, births_asked, births_later, births_rising, still_born, still_earlier}
 use Rattle.wp_commit.proofs.births.number_all.Goals as goal
 
-pub mark_all-requires-clause-pairs : goal.mark_all-requires-clause-pairs
-mark_all-requires-clause-pairs g c =
-    let tables = c.args.tables.now in
-    subst (All (λ (b : Generated). IsOpen tables b.counters)) (sym c.in_ok-births.ensures.births)
-    (births_open tables c.args.first c.args.children.items c.requires.open)
-
-pub mark_all-requires-clause-sizes : goal.mark_all-requires-clause-sizes
-mark_all-requires-clause-sizes g c =
-    let atoms = c.args.tables.now.index.atoms in
-    subst (All (λ (b : Generated). length b.state ≡ atoms)) (sym c.in_ok-births.ensures.births) (births_sized atoms c.args.first c.args.children.items c.requires.sizes)
-
-pub mark_all-requires-clause-numbers : goal.mark_all-requires-clause-numbers
-mark_all-requires-clause-numbers g c =
-    subst (All (λ (b : Generated). b.number < 2 ^ 63)) (sym c.in_ok-births.ensures.births) (births_below c.args.first c.args.children.items c.requires.numbers)
+pub mark_all-requires-clause-ready : goal.mark_all-requires-clause-ready
+mark_all-requires-clause-ready g c =
+    births_ready c.shared_tuples_are_marked.ensures c.no_tuple_is_old.ensures c.args.searched.now c.args.parent.now (placed all_placed c.args.tables.now)
+    c.requires.earlier c.args.children.items c.in_ok-births.births c.in_ok-births.ensures.births c.in_ok-births.ensures.fresh c.requires.ready c.requires.numbers
 
 pub mark_all-requires-clause-later : goal.mark_all-requires-clause-later
 mark_all-requires-clause-later g c =
-    let last = c.args.tables.now.last in
-    subst (λ births. IfSome last (λ n. All (λ (b : Generated). n < b.number) births)) (sym c.in_ok-births.ensures.births)
-    (births_later last c.args.first c.args.children.items c.requires.later)
+    births_later c.args.searched.now.numbered c.args.children.items c.in_ok-births.births c.in_ok-births.ensures.births c.args.tables.now.last c.requires.later
 
 pub mark_all-requires-clause-rising : goal.mark_all-requires-clause-rising
 mark_all-requires-clause-rising g c =
-    subst (AllPairs (λ (x y : Generated). x.number < y.number)) (sym c.in_ok-births.ensures.births) (births_rising c.args.first c.args.children.items)
+    births_rising c.args.searched.now.numbered c.args.children.items c.in_ok-births.births c.in_ok-births.ensures.births
 
 pub newborns_of-requires-clause-parts : goal.newborns_of-requires-clause-parts
 newborns_of-requires-clause-parts g c =
     let children = c.args.children.items in
-    let into = c.into_vec.ensures ∙ (c.in_ok-births-2.ensures.births ∙ c.in_ok-births.ensures.births) in
-    ap length c.in_ok-births.ensures.rests ∙ (length-map children rest_of ∙ sym (ap length into ∙ length-numbered c.args.first children))
+    let into = c.into_vec.ensures ∙ c.in_ok-births-2.ensures.births in
+    ap length c.in_ok-births.ensures.rests
+    ∙ (length-map children rest_of
+    ∙ sym (ap length into ∙ count-births c.args.searched.now.numbered children c.in_ok-births.births c.in_ok-births.ensures.births))
 
-pub newborns_of-requires-clause-open : goal.newborns_of-requires-clause-open
-newborns_of-requires-clause-open g c =
-    let old = c.args.tables.now in
-    let new = c.mark_all.new.tables in
+pub newborns_of-requires-clause-asked : goal.newborns_of-requires-clause-asked
+newborns_of-requires-clause-asked g c =
+    let old = placed all_placed c.args.tables.now in
+    let new = placed all_placed c.mark_all.new.tables in
+    let s = c.args.searched.now in
+    let parent = c.args.parent.now in
     let children = c.args.children.items in
-    let into = c.into_vec.ensures ∙ (c.in_ok-births-2.ensures.births ∙ c.in_ok-births.ensures.births) in
-    subst (All (λ (b : Generated). IsOpen new b.counters)) (sym into)
-    (All-weaker (λ (b : Generated). IsOpen old b.counters) (λ (b : Generated). IsOpen new b.counters)
-    (λ b opened. ap (λ pairs. is_among pairs b.counters) c.in_ok-births-2.ensures.pairs ∙ opened)
-    (all_numbered c.args.first children) (births_open old c.args.first children c.requires.open))
-
-pub newborns_of-requires-clause-sizes : goal.newborns_of-requires-clause-sizes
-newborns_of-requires-clause-sizes g c =
-    let atoms = c.args.tables.now.index.atoms in
-    let into = c.into_vec.ensures ∙ (c.in_ok-births-2.ensures.births ∙ c.in_ok-births.ensures.births) in
-    subst (λ (i : Indexed). All (λ (b : Generated). length b.state ≡ i.atoms) c.into_vec.result.items) (sym c.in_ok-births-2.ensures.index)
-    (subst (All (λ (b : Generated). length b.state ≡ atoms)) (sym into) (births_sized atoms c.args.first c.args.children.items c.requires.sizes))
+    let births = c.in_ok-births.births in
+    let earlier = c.requires.earlier in
+    let into = c.into_vec.ensures ∙ c.in_ok-births-2.ensures.births in
+    subst (All (CanBeAsked new)) (sym into)
+    (births_asked c.shared_tuples_are_marked.ensures c.no_tuple_is_old.ensures s parent new
+    (still_earlier s parent old new earlier (nodes_of births) (c.in_ok-births-2.ensures.stands earlier.births earlier.stands))
+    children births c.in_ok-births.ensures.births c.in_ok-births.ensures.fresh
+    (still_born old new children c.in_ok-births-2.ensures.pairs c.in_ok-births-2.ensures.index c.requires.ready))

@@ -1,8 +1,9 @@
 use Rattle.std.proofs.Common.{◌≡◌, ◌≤◌, ◌-◌, length, map, sym, ap, ◌∙◌, subst, arith, rules}
 use Rattle.std.specs.List.{fold}
+use Rattle.wp_tuples.specs.Placing.{all_placed}
 use Rattle.wp_task.specs.Task.{PlanningTask}
 use Rattle.wp_count.specs.Broods.{IsCountOn}
-use Rattle.wp_novel.specs.NoveltyTables.{open_pairs}
+use Rattle.wp_novel.specs.NoveltyTables.{placed, open_pairs}
 use Rattle.wp_plain.specs.Pairs.{with_pair}
 use Rattle.wp_plain.specs.Explored.{child_pair}
 use Rattle.wp_plain.specs.Steps.{Asked}
@@ -46,16 +47,16 @@ children_of-requires-clause-counts c =
 pub returns-clause-evaluated : goal.returns-clause-evaluated
 returns-clause-evaluated c =
     let s = c.args.searched.now in
-    let tables = c.args.tables.now in
+    let tables = (placed all_placed c.args.tables.now) in
     let at = c.node_at-node.ensures in
     let all : length c.as_slice.result.now ≡ length c.in_ok-acts.acts = search rules in
     let rest : c.len.result ≡ length c.in_ok-reached.reached.items = search rules in
     let pairs =
     c.in_ok-pairs.ensures.pairs ∙ ap (λ l. fold with_pair (open_pairs tables) (map child_pair l)) c.deref.ensures.value in
     subst (λ (t : PlanningTask). IsExpansionOf t s tables c.args.number
-    (record { fresh = c.in_ok-fresh.fresh; repeats = length c.as_slice.result.now - c.len.result; pairs = c.in_ok-pairs.pairs })) (ap (λ (a : Asked). a.task) c.run.view_is)
+    (record { children = c.in_ok-children.children; repeats = length c.as_slice.result.now - c.len.result; pairs = c.in_ok-pairs.pairs })) (ap (λ (a : Asked). a.task) c.run.view_is)
     (expansion-is c.run.inside.task.now s tables c.args.number
-    (record { fresh = c.in_ok-fresh.fresh; repeats = length c.as_slice.result.now - c.len.result; pairs = c.in_ok-pairs.pairs })
+    (record { children = c.in_ok-children.children; repeats = length c.as_slice.result.now - c.len.result; pairs = c.in_ok-pairs.pairs })
     c.node_at-node.result.now c.in_ok-acts.acts c.track-track.result.now c.in_ok-reached.reached.items
-    at.node at.there at.named at.track at.linked c.in_ok-acts.ensures.value c.track-track.ensures c.in_ok-reached.ensures c.in_ok-fresh.ensures.value
+    at.node at.there at.named at.track at.linked c.in_ok-acts.ensures.value c.track-track.ensures c.in_ok-reached.ensures c.in_ok-children.ensures.value
     (λ j. all j - rest j) pairs c.in_ok-pairs.ensures.unopened)

@@ -1,29 +1,29 @@
 use Rattle.std.proofs.Common.{arith, ◌≡◌, ◌+◌, ◌*◌, ◌++◌, [], ◌∷◌, ℕ, List, length, map, sym, ap, ◌∙◌, subst, append_assoc}
 use Rattle.std.specs.Vec.Iter.{into_iter_items}
 use Rattle.std.proofs.lemmas.List.{length_push}
-use Rattle.wp_tuples.specs.TuplePlaces.{tuples_of}
+use Rattle.wp_tuples.specs.Placing.{all_placed}
 use Rattle.wp_novel.specs.declared.birth.Pair.{Pair}
-use Rattle.wp_novel.specs.NoveltyTables.{counters_of, open_pairs}
+use Rattle.wp_novel.specs.NoveltyTables.{placed, counters_of, open_pairs}
 use Rattle.wp_commit.specs.Newborns.{AreUnopened}
 use Rattle.wp_commit.proofs.pairs.open_all.Goals as goal
 
 pub open-requires-clause-unopened : goal.open-requires-clause-unopened
 open-requires-clause-unopened c =
-    (subst (λ (ps : List Pair). AreUnopened (open_pairs c.loop-pair.tables) (map counters_of ps)) c.in-Some.ensures.steps.0 c.loop-pair.invariant.unopened).0
+    (subst (λ (ps : List Pair). AreUnopened (open_pairs (placed all_placed c.loop-pair.tables)) (map counters_of ps)) c.in-Some.ensures.steps.0 c.loop-pair.invariant.unopened).0
 
 pub loop-pair-preserved : goal.loop-pair-preserved
 loop-pair-preserved c =
-    let was = c.loop-pair.tables in
-    let now = c.open.new.tables in
+    let was = placed all_placed c.loop-pair.tables in
+    let now = placed all_placed c.open.new.tables in
     let rest = into_iter_items c.next.new.self in
     let held = c.loop-pair.invariant in
     let here = c.in-Some.ensures.steps.0 in
     let opened = c.in_ok-open.ensures.pairs in
     let count : length (open_pairs now) + length rest ≡ length (open_pairs was) + length (into_iter_items c.loop-pair.pair-iterator) =
     omega (arith, ap (λ (ps : List (ℕ × ℕ)). length ps) opened ∙ length_push (open_pairs was) (counters_of c.in-Some.pair), ap (λ (xs : List Pair). length xs) here) in
-    let words : (length (open_pairs now) + length rest) * length (tuples_of now.index)
-    ≡ (length (open_pairs was) + length (into_iter_items c.loop-pair.pair-iterator)) * length (tuples_of was.index) =
-    λ j. count j * length (tuples_of (c.in_ok-open.ensures.index j)) in record {
+    let words : (length (open_pairs now) + length rest) * now.index.len
+    ≡ (length (open_pairs was) + length (into_iter_items c.loop-pair.pair-iterator)) * was.index.len =
+    λ j. count j * (c.in_ok-open.ensures.index j).len in record {
       unopened = subst (λ (ps : List (ℕ × ℕ)). AreUnopened ps (map counters_of rest)) (sym opened)
           (subst (λ (ps : List Pair). AreUnopened (open_pairs was) (map counters_of ps)) here held.unopened).1;
       within = omega (arith, c.in_ok-open.ensures.limit);

@@ -1,37 +1,45 @@
-use Rattle.std.proofs.Common.{◌≡◌, ◌++◌, ◌∷◌, [], ap, ◌∙◌, subst}
+use Rattle.std.proofs.Common.{◌≡◌, ◌++◌, ◌∷◌, [], refl, sym, ap, ◌∙◌, subst}
+use Rattle.wp_tuples.specs.Placing.{all_placed}
 use Rattle.wp_task.specs.Task.{PlanningTask}
 use Rattle.wp_task.specs.Novelty.{Generated, novelty_of}
 use Rattle.wp_count.specs.Laws.{IsMarked}
+use Rattle.wp_novel.specs.Births.{BirthView}
+use Rattle.wp_novel.specs.NoveltyTables.{placed}
 use Rattle.wp_novel.specs.StandsFor.{StandsFor}
 use Rattle.wp_queue.specs.OpenList.{waiting, IsWith}
 use Rattle.wp_nodes.specs.KeptNodes.{Keeping}
 use Rattle.wp_plain.specs.Steps.{Asked}
+use Rattle.wp_commit.specs.declared.searched.Searched.{Searched}
+use Rattle.wp_commit.specs.Searched.{IsIndexFor}
 use Rattle.wp_commit.proofs.RootLemmas.{root_birth, root_kept, opening-stands}
 use Rattle.wp_commit.proofs.root.root_of.Goals as goal
 
-pub returns : goal.returns
-returns g c =
+pub returns-clause-stands : goal.returns-clause-stands
+returns-clause-stands g c =
     let task = c.args.run.now.task in
     let settings = c.args.run.now.settings in
     let asked : c.run.inside.task.now ≡ task = ap (λ (a : Asked). a.task) c.run.view_is in
-    let tables = c.mark_root.new.tables in
+    let tables = placed all_placed c.mark_root.new.tables in
     let state = c.in_ok-state.state in
     let mark = c.in_ok-state.mark in
     let track = c.in_ok-state.track in
     let w = c.in_ok-w.w in
     let root = c.in_ok-root.root in
-    let root_is : root ≡ root_birth state mark =
-    c.in_ok-root.ensures
+    let root_is : root.node ≡ root_birth state mark =
+    ap (λ (b : BirthView). b.node) c.in_ok-root.ensures
     ∙ (λ j. let b : Generated = record { number = 0; counters = (mark.g, mark.r); state = c.in_ok-copy.ensures j } in b) in
-    let width = ap (λ index. index.width) c.requires.index in
+    let width = c.requires.index.width in
     let tracked : c.add_track.new.self ≡ record { kept = []; tracks = track ∷ [] } =
     c.in_ok-add_track.ensures.added ∙ ap (λ (n : Keeping). record n { tracks = n.tracks ++ track ∷ [] }) c.new-nodes.ensures in
-    opening-stands task settings c.counters_are_carried.ensures.counters tables c.add.new.self c.put.new.self state mark track w (record {
+    let s : Searched = record { nodes = c.add.new.self; queue = c.put.new.self; latest = c.in_ok-latest.latest; numbered = 1; kept = 1; expanded = 0; repeats = 0 } in
+    opening-stands task settings c.counters_are_carried.ensures.counters tables c.add.new.self c.put.new.self state mark track w s (record {
+      searched = record { nodes_are = refl; queue_is = refl; numbered = refl; kept = refl; expanded = refl; repeats = refl };
+      latest = c.in_ok-latest.ensures;
       state_is = ap (λ parts. parts.0) c.in_ok-state.ensures.value ∙ ap (λ (t : PlanningTask). t.init) asked;
       track_is = ap (λ parts. parts.1.track) c.in_ok-state.ensures.value;
       marked = subst (λ (t : PlanningTask). IsMarked t state [] mark track) asked c.in_ok-state.ensures.marked;
       w_is = c.in_ok-w.ensures.novelty ∙ (λ j. novelty_of (width j) (root_is j ∷ []) (root_is j));
-      index = c.in_ok-w.ensures.index ∙ c.requires.index;
+      index = subst (IsIndexFor task settings) (sym c.in_ok-w.ensures.index) c.requires.index;
       limit = c.in_ok-w.ensures.limit ∙ c.requires.limit;
       births = subst (λ b. StandsFor tables (b ∷ [])) root_is c.in_ok-w.ensures.stands;
       pairs = c.in_ok-w.ensures.pairs ∙ ap (λ (b : Generated). b.counters ∷ []) root_is;

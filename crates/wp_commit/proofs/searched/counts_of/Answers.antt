@@ -1,5 +1,7 @@
 use Rattle.std.proofs.Common.{◌≡◌, ◌-◌, ◌∙◌, length, arith}
 use Rattle.std.specs.List.{count_by}
+use Rattle.wp_tuples.specs.Placing.{all_placed}
+use Rattle.wp_novel.specs.NoveltyTables.{placed}
 use Rattle.wp_plain.specs.declared.ending.Counts.{Counts}
 use Rattle.wp_plain.specs.Nodes.{generated_in}
 use Rattle.wp_plain.specs.Pairs.{pairs_in}
@@ -18,7 +20,7 @@ returns c m holds =
     let task = c.args.run.now.task in
     let settings = c.args.run.now.settings in
     let s = c.args.searched.now in
-    let tables = c.args.tables.now in
+    let tables = (placed all_placed c.args.tables.now) in
     let kept : s.kept ≡ count_by (λ n. n.kept) m.nodes = holds.counts.kept ∙ kept-count s.nodes.kept m.nodes holds.nodes.nodes_are in
     let pairs : c.pairs.result ≡ length (pairs_in (generated_in m.nodes)) =
     c.pairs.ensures.value ∙ pairs-count task settings s tables m holds in

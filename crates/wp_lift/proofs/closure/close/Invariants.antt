@@ -1,7 +1,9 @@
-use Rattle.std.proofs.Common.{◌≡◌, fold, take, length}
-use Rattle.wp_lift.specs.Rows.{passed_on}
+use Rattle.std.proofs.Common.{◌≡◌, ◌<◌, ℕ, true, get_or}
+use Rattle.wp_lift.specs.Typing.{is_flagged}
+use Rattle.wp_lift.proofs.SearchLemmas.{IsClosing}
 use Rattle.wp_lift.proofs.closure.close.Given as goal
 
-abbrev pub invariant-loop-middle : goal.invariant-loop-middle
-invariant-loop-middle l =
-    (l.rows.items ≡ fold passed_on l.initial.rows.items (take l.middle-index l.order)) × (length l.rows.items ≡ length l.initial.rows.items)
+abbrev pub invariant-loop-a : goal.invariant-loop-a
+invariant-loop-a l =
+    IsClosing l.count l.fn.rows.items l.rows.items l.closed
+    × ((k : ℕ) → k < l.a-index → is_flagged l.closed (get_or l.order k 0) ≡ true)

@@ -1,5 +1,5 @@
-use Rattle.std.proofs.Common.{◌≤◌, arith}
-use Rattle.wp_lift.proofs.OrderLemmas.{flagged-more, listing-none, listing-order}
+use Rattle.std.proofs.Common.{arith}
+use Rattle.wp_lift.proofs.OrderLemmas.{listing-order}
 use Rattle.wp_lift.proofs.order.all_of.Goals as goal
 
 pub returns : goal.returns

@@ -1,6 +1,6 @@
 use Rattle.std.proofs.Common.{◌≡◌, ◌+◌, false, List, length, map, refl, sym, ap, ◌∙◌, subst, [], ◌∷◌, ◌++◌, length-append, arith}
 use Rattle.std.specs.Vec.Iter.{into_iter_items}
-use Rattle.wp_task.specs.Novelty.{Generated}
+use Rattle.wp_novel.specs.Births.{BirthView}
 use Rattle.wp_novel.specs.declared.deal.Share.{Share}
 use Rattle.wp_novel.specs.Jobs.{JobView}
 use Rattle.wp_novel.specs.Dealing.{CanLend, ArePassesFor, AreGiven}
@@ -10,7 +10,7 @@ use Rattle.wp_novel.proofs.deal.fill_all.Goals as goal
 pub take_passes-passes-requires-clause-lend : goal.take_passes-passes-requires-clause-lend
 take_passes-passes-requires-clause-lend c =
     let now = c.loop-share.homes.entries in
-    subst (λ (l : List Generated). CanLend 1 now l) (sym c.deref.ensures.value)
+    subst (λ (l : List BirthView). CanLend 1 now l) (sym c.deref.ensures.value)
     (can_lend c.args.homes.now.entries now c.loop-share.invariant.0 (into_iter_items c.next.new.self) c.args.shares.items (into_iter_items c.loop-share.share-iterator)
     c.in-Some.share c.loop-share.jobs.items c.loop-share.invariant.1 c.in-Some.ensures.steps.0 c.loop-share.invariant.2 c.requires.lend)
 
@@ -43,6 +43,6 @@ loop-share-preserved c =
       moved done (into_iter_items c.next.new.self) c.args.shares.items (into_iter_items c.loop-share.share-iterator) share c.loop-share.invariant.1 c.in-Some.ensures.steps.0,
       subst (λ (l : List JobView). AreGiven old later (map births_in_share (done ++ share ∷ [])) l) (sym c.push_reserved.ensures.items)
           (one_given old now later done share c.loop-share.jobs.items job c.loop-share.invariant.2 refl refl
-          (subst (λ (l : List Generated). ArePassesFor now l passes) c.deref.ensures.value c.take_passes-passes.ensures.passes) c.take_passes-passes.ensures.homes),
+          (subst (λ (l : List BirthView). ArePassesFor now l passes) c.deref.ensures.value c.take_passes-passes.ensures.passes) c.take_passes-passes.ensures.homes),
       c.push_reserved.ensures.capacity ∙ c.loop-share.invariant.3,
     )

@@ -3,7 +3,7 @@ use Rattle.std.specs.List.{All}
 use Rattle.std.specs.Vec.{vec_len, vec_capacity}
 use Rattle.std.specs.Vec.Iter.{into_iter_items}
 use Rattle.std.proofs.lemmas.Grind.{flat_map-append}
-use Rattle.wp_task.specs.Novelty.{Generated}
+use Rattle.wp_novel.specs.Births.{BirthView}
 use Rattle.wp_novel.specs.declared.job.JobPass.{JobPass}
 use Rattle.wp_novel.specs.Jobs.{JobView, HomesBecome, Takes, passes_of, births_of}
 use Rattle.wp_novel.specs.Dealing.{CanMark}
@@ -38,9 +38,9 @@ loop-job-preserved c =
     ap (λ (l : List JobView). births_of done ++ births_of l) (sym next)
     ∙ (sym (flat_map-append (λ (j : JobView). j.births) done (into_iter_items c.loop-job.job-iterator)) ∙ ap (λ (l : List JobView). births_of l) c.loop-job.invariant.1) in
     let sum : length (births_of done) + (length job.births + length (births_of rest)) ≡ length (births_of c.args.jobs.items) =
-    (λ j. length (births_of done) + sym (length-append job.births (births_of rest)) j) ∙ (sym (length-append (births_of done) (job.births ++ births_of rest)) ∙ ap (λ (l : List Generated). length l) whole) in
-    let so_far : length c.loop-job.all.items ≡ length (births_of done) = ap (λ (l : List Generated). length l) c.loop-job.invariant.3 in
-    let mine : length c.job.inside.births.items ≡ length job.births = ap (λ (l : List Generated). length l) births in
+    (λ j. length (births_of done) + sym (length-append job.births (births_of rest)) j) ∙ (sym (length-append (births_of done) (job.births ++ births_of rest)) ∙ ap (λ (l : List BirthView). length l) whole) in
+    let so_far : length c.loop-job.all.items ≡ length (births_of done) = ap (λ (l : List BirthView). length l) c.loop-job.invariant.3 in
+    let mine : length c.job.inside.births.items ≡ length job.births = ap (λ (l : List BirthView). length l) births in
     let room : vec_len c.loop-job.all + vec_len c.job.inside.births ≤ vec_capacity c.loop-job.all =
     omega (arith, c.requires.room, c.loop-job.invariant.4, c.loop-job.all.ok.0, c.job.inside.births.ok.0) in
     let items : c.append.new.self.items ≡ c.loop-job.all.items ++ c.job.inside.births.items =

@@ -1,5 +1,5 @@
 use Rattle.std.proofs.Common.{◌≡◌, take}
-use Rattle.wp_novel.specs.Jobs.{numbers_of}
+use Rattle.wp_novel.specs.Births.{numbers_of}
 use Rattle.wp_novel.proofs.deal.numbers_of.Given as goal
 
 abbrev pub invariant-loop-birth : goal.invariant-loop-birth

@@ -1,6 +1,6 @@
 use Rattle.std.proofs.Common.{◌≡◌, ◌∷◌, ◌++◌, [], true, List, take, sym, ap, ◌∙◌, subst}
 use Rattle.std.proofs.lemmas.List.{take_more}
-use Rattle.wp_task.specs.Novelty.{Generated}
+use Rattle.wp_novel.specs.Births.{BirthView}
 use Rattle.wp_novel.specs.declared.job.JobPass.{JobPass}
 use Rattle.wp_novel.specs.NoveltyTables.{is_among, pairs_of}
 use Rattle.wp_novel.specs.Jobs.{HomesBecome, Lends}
@@ -14,7 +14,7 @@ pub take_pass-requires-clause-open : goal.take_pass-requires-clause-open
 take_pass-requires-clause-open c =
     let homes = c.args.homes.now.entries in
     lend_open c.loop-birth.passes.items homes c.loop-birth.homes.entries c.birth-item.result c.pair.result c.loop-birth.invariant.homes
-    (subst (λ (b : Generated). is_among (pairs_of homes) b.counters ≡ true) (sym c.birth-item.is)
+    (subst (λ (b : BirthView). is_among (pairs_of homes) b.node.counters ≡ true) (sym c.birth-item.is)
     (c.requires.lend.opens c.loop-birth.birth-index c.birth-item.result c.loop-birth-test.true))
     c.pair.ensures
 
@@ -34,7 +34,7 @@ loop-birth-preserved c =
     let after = c.take_pass.new.passes.items in
     let takes = c.take_pass.ensures.takes in
     record {
-      passes = subst (λ (done : List Generated). ArePassesFor homes done after)
+      passes = subst (λ (done : List BirthView). ArePassesFor homes done after)
           (sym (take_more births i b c.loop-birth-test.true ∙ ap (λ x. take i births ++ x ∷ []) (sym c.birth-item.is)))
           (given_more homes now later (take i births) b c.pair.result passes after c.loop-birth.invariant.passes c.loop-birth.invariant.homes c.pair.ensures takes);
       homes = subst (λ (l : List JobPass). HomesBecome (Lends l) homes later) (sym takes.is)

@@ -1,4 +1,6 @@
 use Rattle.std.proofs.Common.{◌≡◌, ◌-◌, ◌≤◌, ◌++◌, Option, Some, false, MatchOption, is_some, length, sym, ap, ◌∙◌, subst, arith}
+use Rattle.wp_tuples.specs.Placing.{Placing, all_placed}
+use Rattle.wp_novel.specs.NoveltyTables.{placed}
 use Rattle.wp_nodes.specs.declared.kept.Kept.{Kept}
 use Rattle.wp_watch.specs.declared.event.Event.{Event}
 use Rattle.wp_plain.specs.declared.settings.Settings.{Settings}
@@ -10,19 +12,15 @@ use Rattle.wp_plain.specs.Steps.{Asked, CanExpand, event_for}
 use Rattle.wp_commit.specs.Newborns.{event_as, IsCommitted}
 use Rattle.wp_commit.specs.Expansions.{brood_of}
 use Rattle.wp_commit.specs.Searched.{StandsAt}
-use Rattle.wp_commit.proofs.ExpansionLemmas.{event-for, fits, goes, in_hand, laws_of, kept-few, needed-length, newborns-fit}
+use Rattle.wp_commit.proofs.ExpansionLemmas.{event-for, fits, goes, in_hand, laws_of, kept-few, needed-length, newborns-fit, some_same}
 use Rattle.wp_commit.proofs.NewbornLemmas.{length-newborns}
 use Rattle.wp_commit.proofs.store.StoreBestFirst.admit.Goals as goal
-
--- the kept node of a number is one
-some_same : (x y : Kept) (o : Option Kept) → o ≡ Some x → o ≡ Some y → x ≡ y
-some_same x y o one other = cc
 
 pub enter-requires : goal.enter-requires
 enter-requires g c =
     let a = c.args.self.now.run in
     let s = c.args.self.now.searched in
-    let tables = c.args.self.now.tables in
+    let tables = (placed all_placed c.args.self.now.tables) in
     let number = c.args.number in
     let x = c.args.expansion in
     let any = c.requires.can in
@@ -30,13 +28,13 @@ enter-requires g c =
     let ev = in_hand a.task s tables number x (laws_of c.counters_are_carried.ensures.children c.children_are_numbered.ensures c.nodes_are_numbered.ensures) e in
     let can = subst (λ (b : Asked). CanExpand b any.0 any.1) (sym any.2.0.same) any.3 in
     let budget : a.settings.budget ≤ 100000000 = omega (arith, c.requires.range.budget.1, ap (λ (b : Asked). b.settings.budget) any.2.0.same) in
-    let repeats_is : x.repeats ≡ length (brood_of a.task s.nodes e.node) - length x.fresh.items = omega (arith, e.repeats_are) in
-    let needed = needed-length a.task a.settings s tables number e.node (brood_of a.task s.nodes e.node) x.fresh.items x.pairs.items ev any.0 any.1 any.2.1 in
+    let repeats_is : x.repeats ≡ length (brood_of a.task s.nodes e.node) - length x.children.items = omega (arith, e.repeats_are) in
+    let needed = needed-length a.task a.settings s tables number e.node (brood_of a.task s.nodes e.node) x.children.items x.pairs.items ev any.0 any.1 any.2.1 in
     record {
       works = any.2.0.works;
       taken = (any.0, any.1, any.2.1);
       evaluated = e;
-      numbers = (fits a.task a.settings s tables number e.node (brood_of a.task s.nodes e.node) x.fresh.items x.pairs.items ev any.0 any.1 any.2.1 can.later budget x.repeats repeats_is).0;
+      numbers = (fits a.task a.settings s tables number e.node (brood_of a.task s.nodes e.node) x.children.items x.pairs.items ev any.0 any.1 any.2.1 can.later budget x.repeats repeats_is).0;
       few = (λ j. exceeds a.settings.words (needed j) (sym any.2.0.all j)) ∙ can.few;
     }
 
@@ -44,7 +42,7 @@ pub keep_expansion-requires : goal.keep_expansion-requires
 keep_expansion-requires g c =
     let a = c.args.self.now.run in
     let s = c.args.self.now.searched in
-    let tables = c.args.self.now.tables in
+    let tables = (placed all_placed c.args.self.now.tables) in
     let number = c.args.number in
     let x = c.args.expansion in
     let any = c.requires.can in
@@ -52,15 +50,15 @@ keep_expansion-requires g c =
     let ev = in_hand a.task s tables number x (laws_of c.counters_are_carried.ensures.children c.children_are_numbered.ensures c.nodes_are_numbered.ensures) e in
     let can = subst (λ (b : Asked). CanExpand b any.0 any.1) (sym any.2.0.same) any.3 in
     let budget : a.settings.budget ≤ 100000000 = omega (arith, c.requires.range.budget.1, ap (λ (b : Asked). b.settings.budget) any.2.0.same) in
-    let repeats_is : x.repeats ≡ length (brood_of a.task s.nodes e.node) - length x.fresh.items = omega (arith, e.repeats_are) in
-    let small = fits a.task a.settings s tables number e.node (brood_of a.task s.nodes e.node) x.fresh.items x.pairs.items ev any.0 any.1 any.2.1 can.later budget x.repeats repeats_is in
+    let repeats_is : x.repeats ≡ length (brood_of a.task s.nodes e.node) - length x.children.items = omega (arith, e.repeats_are) in
+    let small = fits a.task a.settings s tables number e.node (brood_of a.task s.nodes e.node) x.children.items x.pairs.items ev any.0 any.1 any.2.1 can.later budget x.repeats repeats_is in
     let numbered = c.in_ok-numbered.numbered in
     let entered = c.in_ok-numbered.ensures any.0 any.1 any.2.1 in
-    let count : length numbered.newborns.items ≡ length x.fresh.items =
-    ap length entered.newborns ∙ length-newborns a.settings.width (generated_in any.0.nodes ++ all_numbered (length any.0.nodes) x.fresh.items) (length any.0.nodes) x.fresh.items in
+    let count : length numbered.newborns.items ≡ length x.children.items =
+    ap length entered.newborns ∙ length-newborns a.settings.width (generated_in any.0.nodes ++ all_numbered (length any.0.nodes) x.children.items) (length any.0.nodes) x.children.items in
     let holds = any.2.1.holds in
     record {
-      new = newborns-fit a.task a.settings s tables number e.node (brood_of a.task s.nodes e.node) x.fresh.items x.pairs.items ev any.0 any.1 any.2.1 numbered.newborns.items entered.newborns;
+      new = newborns-fit a.task a.settings s tables number e.node (brood_of a.task s.nodes e.node) x.children.items x.pairs.items ev any.0 any.1 any.2.1 numbered.newborns.items entered.newborns;
       is_kept = ap is_some e.found;
       tracked = c.node_at-node.ensures.track;
       few = omega (arith, kept-few s.nodes.kept any.0.nodes holds.nodes.nodes_are, holds.counts.kept, holds.counts.numbered);
@@ -74,14 +72,14 @@ returns g c m node at can =
     let asked = c.args.run.now in
     let a = c.args.self.now.run in
     let s = c.args.self.now.searched in
-    let tables = c.args.self.now.tables in
+    let tables = (placed all_placed c.args.self.now.tables) in
     let number = c.args.number in
     let x = c.args.expansion in
     let e = at.2 in
     let ev = in_hand a.task s tables number x (laws_of c.counters_are_carried.ensures.children c.children_are_numbered.ensures c.nodes_are_numbered.ensures) e in
     let numbered = c.in_ok-numbered.numbered in
     let entered = c.in_ok-numbered.ensures m node at.1 in
-    let repeats_is : numbered.repeats ≡ length (brood_of a.task s.nodes e.node) - length x.fresh.items = omega (arith, e.repeats_are, entered.repeats) in
+    let repeats_is : numbered.repeats ≡ length (brood_of a.task s.nodes e.node) - length x.children.items = omega (arith, e.repeats_are, entered.repeats) in
     let k = c.node_at-node.result.now in
     let same : k ≡ e.node = some_same k e.node _ c.node_at-node.ensures.node e.found in
     let later = c.keep_expansion.new.searched in
@@ -90,14 +88,14 @@ returns g c m node at can =
     (subst (λ (n : Kept). IsCommitted c.settings.result.now number n.mark.track numbered.newborns.items numbered.repeats s later) same c.in_ok-keep_expansion.ensures) in
     let event : event_as a.settings k numbered.repeats numbered.newborns.items ≡ event_for asked m node =
     ap (λ (n : Kept). event_as a.settings n numbered.repeats numbered.newborns.items) same
-    ∙ (event-for a.task a.settings s tables number e.node (brood_of a.task s.nodes e.node) x.fresh.items x.pairs.items ev m node at.1
+    ∙ (event-for a.task a.settings s tables number e.node (brood_of a.task s.nodes e.node) x.children.items x.pairs.items ev m node at.1
     numbered.newborns.items numbered.repeats entered.newborns repeats_is
     ∙ ap (λ (b : Asked). event_for b m node) at.0.same) in (
       (
-        at.0,
-        subst (λ (b : Asked). StandsAt a.task a.settings later c.enter.new.tables (next_of b.task b.settings m node)) at.0.same
-            (goes a.task a.settings s tables number e.node (brood_of a.task s.nodes e.node) x.fresh.items x.pairs.items ev m node at.1
-            c.enter.new.tables numbered.newborns.items numbered.repeats later entered.newborns repeats_is committed
+        record { same = at.0.same; all = at.0.all ∙ ap (λ (i : Placing). i.len) (sym entered.index); works = at.0.works },
+        subst (λ (b : Asked). StandsAt a.task a.settings later (placed all_placed c.enter.new.tables) (next_of b.task b.settings m node)) at.0.same
+            (goes a.task a.settings s tables number e.node (brood_of a.task s.nodes e.node) x.children.items x.pairs.items ev m node at.1
+            (placed all_placed c.enter.new.tables) numbered.newborns.items numbered.repeats later entered.newborns repeats_is committed
             entered.births entered.pairs entered.home entered.index entered.limit),
       ),
       subst (λ (y : Event). MatchOption c.in_ok-told.told (c.args.wanted ≡ false) (λ z. z ≡ y)) event c.in_ok-told.ensures,

@@ -1,0 +1,3 @@
+pub mod Jobs
+pub mod KeptBroods
+pub mod Laws
