@@ -1,8 +1,8 @@
 //! The broods that are kept.
-ghost use Rattle.std.specs.Prelude.{◌≡◌, ◌≢◌, ◌≤◌, [], length, map, All, IfOk, IfSome, OnOk, OnErr};
+ghost use Rattle.std.specs.Prelude.{◌≡◌, ◌≢◌, ◌≤◌, [], length, map, All, IfOk, IfSome, IsOk, OnOk, OnErr};
 ghost use Rattle.wp_task.specs.Task.{PlanningTask};
 ghost use Rattle.wp_nodes.specs.KeptNodes.{Keeping, IsKept};
-ghost use Rattle.wp_ahead.specs.declared.job.Outcome.TheVariants.{NotWorked};
+ghost use Rattle.wp_ahead.specs.declared.job.Outcome.TheVariants.{NotWorked, Refused};
 ghost use Rattle.wp_ahead.specs.Jobs.{IsJobOf, IsJobFor};
 ghost use Rattle.wp_ahead.specs.KeptBroods.{brood_under, front, without_brood, KeepsOnly, AreAmong, Adds, AddsSome, IsWithout, IsBroodAt, Fit};
 
@@ -64,11 +64,13 @@ impl Broods {
         Ok(AheadJobs::of_vec(jobs))
     }
 
-    /// Keeps the broods that the jobs made, each under its number. Where memory is refused some of them are kept.
+    /// Keeps the broods that the jobs made, each under its number. Where memory is refused some of them are kept. A job that was refused
+    /// ends nothing: its node is evaluated when it is taken.
     pub fn keep(&mut self, jobs: AheadJobs) -> Result<(), AllocError>
         requires { All (λ j. j.outcome ≢ NotWorked) jobs }
         ensures kept { OnOk result (Adds jobs self.old self.new) }
         ensures refused { OnErr result (AddsSome jobs self.old self.new) }
+        ensures ends_nothing { All (λ j. j.outcome ≡ Refused) jobs → IsOk result }
         ensures fits { (task : PlanningTask) (nodes : Keeping) → Fit task nodes self.old → All (IsJobFor task nodes) jobs → Fit task nodes self.new }
     {
         keep_all(&mut self.kept, jobs.into_vec())

@@ -1,6 +1,6 @@
 //! Broods that jobs made, as they are kept.
-ghost use Rattle.std.specs.Prelude.{◌≡◌, ◌≢◌, [], ◌∷◌, All, OnOk, OnErr};
-ghost use Rattle.wp_ahead.specs.declared.job.Outcome.TheVariants.{NotWorked};
+ghost use Rattle.std.specs.Prelude.{◌≡◌, ◌≢◌, [], ◌∷◌, All, IsOk, OnOk, OnErr};
+ghost use Rattle.wp_ahead.specs.declared.job.Outcome.TheVariants.{NotWorked, Refused};
 ghost use Rattle.wp_ahead.specs.KeptBroods.{Adds, AddsSome};
 
 use crate::job::{AheadJob, Outcome};
@@ -16,6 +16,7 @@ pub(crate) fn keep_all(
     requires { All (λ j. j.outcome ≢ NotWorked) jobs.items }
     ensures kept { OnOk result (Adds jobs.items kept.old.entries kept.new.entries) }
     ensures refused { OnErr result (AddsSome jobs.items kept.old.entries kept.new.entries) }
+    ensures ends_nothing { All (λ j. j.outcome ≡ Refused) jobs.items → IsOk result }
 {
     for job in jobs {
         keep(kept, job)?;
@@ -28,6 +29,7 @@ fn keep(kept: &mut BTreeMap<u64, Brood>, job: AheadJob) -> Result<(), AllocError
     requires { job.outcome ≢ NotWorked }
     ensures kept { OnOk result (Adds (job ∷ []) kept.old.entries kept.new.entries) }
     ensures refused { OnErr result (kept.new.entries ≡ kept.old.entries) }
+    ensures ends_nothing { job.outcome ≡ Refused → IsOk result }
 {
     let AheadJob {
         number,

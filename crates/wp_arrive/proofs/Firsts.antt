@@ -4,7 +4,7 @@ use Prim.Native.Nat.{min}
 use mathlib.Core.Option.{some, some-injective, some-ne-none}
 use lib.ListN.{get_elem?}
 use Rattle.atomic_table.proofs.Lists.{at_set, at_snoc}
-use Rattle.wp_arrive.specs.declared.view.Mark.{Mark}
+use Rattle.wp_arrive.specs.declared.view.Arrival.{Arrival}
 use Rattle.wp_arrive.specs.declared.view.View.{View}
 use Rattle.wp_arrive.specs.FirstArrival.{mark, first}
 use Rattle.wp_arrive.specs.Rule.{marks_of, parts_of, IdleIsEmpty}
@@ -16,7 +16,7 @@ pick_le : (b : Bool) (n x : ℕ) → x ≤ none_yet → cond b (min n x) x ≤ n
 pick_le true n x h = omega (arith, h)
 pick_le false n x h = h
 
-pub first_le : (ms : List Mark) (t : ℕ) → first ms t ≤ none_yet
+pub first_le : (ms : List Arrival) (t : ℕ) → first ms t ≤ none_yet
 first_le [] t = omega arith
 first_le (m ∷ ms) t = pick_le (eqb m.place t) m.number (first ms t) (first_le ms t)
 
@@ -24,18 +24,18 @@ pick_min : (b : Bool) (n x y z : ℕ) → z ≡ min x y → cond b (min n z) z �
 pick_min true n x y z e = omega (arith, e)
 pick_min false n x y z e = e
 
-pub first_append : (l r : List Mark) (t : ℕ) → first (l ++ r) t ≡ min (first l t) (first r t)
+pub first_append : (l r : List Arrival) (t : ℕ) → first (l ++ r) t ≡ min (first l t) (first r t)
 first_append [] r t = omega (arith, first_le r t)
 first_append (m ∷ l) r t = pick_min (eqb m.place t) m.number (first l t) (first r t) (first (l ++ r) t) (first_append l r t)
 
-pub gained_here : (ms : List Mark) (t n : ℕ) → n < none_yet → first (ms ++ mark t n ∷ []) t ≡ min (first ms t) n
+pub gained_here : (ms : List Arrival) (t n : ℕ) → n < none_yet → first (ms ++ mark t n ∷ []) t ≡ min (first ms t) n
 gained_here ms t n h = let one : first (mark t n ∷ []) t ≡ min n none_yet = ap (λ b. cond b (min n none_yet) none_yet) (eq-eqb t t refl) in omega (arith, first_append ms (mark t n ∷ []) t, one)
 
-pub gained_else : (ms : List Mark) (t u n : ℕ) → u ≢ t → first (ms ++ mark t n ∷ []) u ≡ min (first ms u) none_yet
+pub gained_else : (ms : List Arrival) (t u n : ℕ) → u ≢ t → first (ms ++ mark t n ∷ []) u ≡ min (first ms u) none_yet
 gained_else ms t u n ne = let one : first (mark t n ∷ []) u ≡ none_yet = ap (λ b. cond b (min n none_yet) none_yet) (ne_eqb t u (λ e. ne (sym e))) in omega (arith, first_append ms (mark t n ∷ []) u, one)
 
 -- a mark of a number that may be none
-pub gained_any : (ms : List Mark) (t n : ℕ) → n ≤ none_yet → first (ms ++ mark t n ∷ []) t ≡ min (first ms t) n
+pub gained_any : (ms : List Arrival) (t n : ℕ) → n ≤ none_yet → first (ms ++ mark t n ∷ []) t ≡ min (first ms t) n
 gained_any ms t n h = let one : first (mark t n ∷ []) t ≡ min n none_yet = ap (λ b. cond b (min n none_yet) none_yet) (eq-eqb t t refl) in omega (arith, first_append ms (mark t n ∷ []) t, one)
 
 -- one view gains marks of which x is the first: so do all views

@@ -1,11 +1,11 @@
 -- Worked rows of the definitions, each computed.
 use Rattle.std.specs.Prelude.{◌≡◌, List, [], ◌∷◌, refl}
-use Rattle.wp_arrive.specs.declared.view.Mark.{Mark}
+use Rattle.wp_arrive.specs.declared.view.Arrival.{Arrival}
 use Rattle.wp_arrive.specs.FirstArrival.{mark, first}
 use Rattle.wp_arrive.specs.Laws.{arrive_all, blank_words}
 
 -- two arrivals at place 0, and one at place 2
-abbrev three : List Mark
+abbrev three : List Arrival
 three = mark 0 5 ∷ mark 2 9 ∷ mark 0 3 ∷ []
 
 the_least_number_came_first : first three 0 ≡ 3

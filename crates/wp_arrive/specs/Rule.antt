@@ -5,11 +5,11 @@ use Rattle.std.specs.Bool.{MatchBool}
 use mathlib.Core.Option.{some}
 use lib.ListN.{get_elem?}
 use Rattle.atomic_table.specs.Table.{State, Me, Step}
-use Rattle.wp_arrive.specs.declared.view.Mark.{Mark}
+use Rattle.wp_arrive.specs.declared.view.Arrival.{Arrival}
 use Rattle.wp_arrive.specs.declared.view.View.{View}
 use Rattle.wp_arrive.specs.FirstArrival.{mark, first}
 
-abbrev pub view : ℕ → List Mark → View
+abbrev pub view : ℕ → List Arrival → View
 view parts marks = record { parts = parts; marks = marks }
 
 -- the view that a table begins with, and the one that a joined pass leaves behind
@@ -30,7 +30,7 @@ one_part = view 1 []
 abbrev pub joined : View → View → View
 joined v w = view (v.parts + w.parts) (v.marks ++ w.marks)
 
-abbrev pub marks_of : List View → List Mark
+abbrev pub marks_of : List View → List Arrival
 marks_of [] = []
 marks_of (v ∷ views) = v.marks ++ marks_of views
 
@@ -53,7 +53,7 @@ abbrev pub Gains : Step ℕ → Me ℕ View → ℕ → Me ℕ View → Type 0
 Gains s me found after = after ≡ (view me.0.parts (me.0.marks ++ mark s.word s.first ∷ []), me.1)
 
 -- the number of the latest mark
-abbrev pub latest : List Mark → ℕ
+abbrev pub latest : List Arrival → ℕ
 latest [] = 2 ^ 64 - 1
 latest (m ∷ []) = m.number
 latest (m ∷ next ∷ marks) = latest (next ∷ marks)

@@ -9,6 +9,7 @@ ghost use Rattle.wp_arrive.specs.Rule.{latest};
 ghost use Rattle.wp_arrive.specs.Seen.{TableId, table_id_coded, PassView, seen};
 
 use crate::rule::{FirstArrivals, Gives, Looks, Marks, MarksAgain};
+use crate::unmarked::Unmarked;
 use crate::view::View;
 use atomic_table::{Seat, Table};
 use std::alloc::{AllocError, Global};
@@ -66,8 +67,18 @@ impl Arrivals {
         requires { (1 ≤ words) × (words ≤ 2 ^ 31) }
         ensures { IfOk result (λ r. (r.0.words ≡ words) × (r.1 ≡ seen r.0 [] (2 ^ 32))) }
     {
-        let opening = vec![in alloc; u64::MAX; words as usize]?;
-        let (table, seat) = Table::of_words(alloc, opening.as_slice(), &words)?;
+        let mut unmarked = Unmarked::new(alloc);
+        unmarked.fit(alloc, words)?;
+        Arrivals::of_unmarked(alloc, &unmarked)
+    }
+
+    /// The same, as many words as are lent, of which it is a copy: 8 bytes a word.
+    // A table that makes its own first words writes each word twice.
+    pub fn of_unmarked(alloc: Global, unmarked: &Unmarked) -> Result<(Arrivals, Pass), AllocError>
+        requires { (1 ≤ unmarked.now) × (unmarked.now ≤ 2 ^ 31) }
+        ensures { IfOk result (λ r. (r.0.words ≡ unmarked.now) × (r.1 ≡ seen r.0 [] (2 ^ 32))) }
+    {
+        let (table, seat) = Table::of_words(alloc, unmarked.as_slice(), &unmarked.len())?;
         Ok((Arrivals { table }, Pass::of(seat)))
     }
 

@@ -2,7 +2,7 @@
 use std::collections::LinkedList;
 
 /// The number `number` came to the place `place`.
-pub struct Mark {
+pub struct Arrival {
     pub place: u64,
     pub number: u64,
 }
@@ -10,5 +10,5 @@ pub struct Mark {
 /// The marks that a pass has, and its parts of the right to know all marks.
 pub struct View {
     pub parts: u64,
-    pub marks: LinkedList<Mark>,
+    pub marks: LinkedList<Arrival>,
 }

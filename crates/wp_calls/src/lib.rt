@@ -17,5 +17,3 @@ mod states;
 mod tables;
 #[cfg(test)]
 mod tasks;
-#[cfg(test)]
-mod watchers;

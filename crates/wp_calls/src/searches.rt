@@ -2,8 +2,8 @@
 ghost use Rattle.std.specs.Prelude.{◌≡◌, [], All};
 
 use crate::tasks::chain;
-use crate::watchers::compare;
 use std::alloc::Global;
+use std::process::Abort;
 use std::test::Fail;
 use std::thread::Threads;
 use wp_commit::search_in;
@@ -44,6 +44,14 @@ fn search_the_chain<R: Threads + Sync>(
     )?;
     let texts = watchers.texts(alloc)?;
     Ok((ending, tables.pairs(), texts))
+}
+
+/// Fails unless the texts are these.
+fn compare<R: Abort>(rt: &R, texts: &Texts, wanted: &[&str]) {
+    assert!(rt; texts.as_slice().len() == wanted.len());
+    for (text, want) in texts.as_slice().iter().zip(wanted) {
+        assert!(rt; text.as_slice() == want.as_bytes());
+    }
 }
 
 #[test]

@@ -1,10 +1,10 @@
 -- Numbered children as births: what novelty tables ask of births that are dealt, and what they tell of them.
-use Rattle.std.proofs.Common.{◌≡◌, ℕ, zero, suc, ◌+◌, ◌-◌, ◌^◌, ◌<◌, ◌≤◌, Bool, true, false, List, [], ◌∷◌, ◌++◌, length, map, drop, get_or, Option, Some, None, IfSome, refl, sym, ap, ◌∙◌, subst, append_assoc, arith}
+use Rattle.std.proofs.Common.{◌≡◌, ℕ, zero, suc, ◌+◌, ◌-◌, ◌^◌, ◌<◌, ◌≤◌, Bool, true, List, [], ◌∷◌, ◌++◌, length, map, drop, get_or, Option, Some, None, IfSome, refl, sym, ap, ◌∙◌, subst, append_assoc, arith}
 use Rattle.std.specs.List.{All, AllPairs, Contains}
 use Rattle.std.proofs.lemmas.List.{append-nil, get_or-map, length-map, length_push, map-append}
 use Rattle.std.proofs.lemmas.List.Elements.{Contains-append_left, Contains-append_right}
 use Rattle.std.proofs.lemmas.Option.{IfSome_then}
-use Rattle.wp_task.specs.Set.{has, lists}
+use Rattle.wp_task.specs.Set.{has}
 use Rattle.wp_task.specs.Novelty.{Generated, novelty_of}
 use Rattle.wp_count.specs.declared.brood.Child.{Child}
 use Rattle.wp_novel.specs.Births.{BirthView, is_new, nodes_of}
@@ -19,7 +19,7 @@ use Rattle.wp_commit.specs.declared.births.Rest.{Rest}
 use Rattle.wp_commit.specs.declared.newborn.Newborn.{Newborn}
 use Rattle.wp_commit.specs.declared.searched.Searched.{Searched}
 use Rattle.wp_commit.specs.Newborns.{rest_of, child_with, newborns_of}
-use Rattle.wp_commit.specs.Entering.{AreFresh, IsFresh, IsEarlier, HasBirth, StandsForEarlier, CanBeBorn, CanBeAsked}
+use Rattle.wp_commit.specs.Entering.{AreFresh, IsFresh, HasBirth, StandsForEarlier, CanBeBorn, CanBeAsked}
 use Rattle.wp_commit.proofs.ConditionLemmas.{length-numbered}
 
 birth-at : (n : ℕ) (children : List Child) (k : ℕ) (d : Generated) (e : Child) → k < length children →

@@ -1,8 +1,7 @@
 -- The latest birth of each pair is a birth of it, whose state is at hand; and so are the states that a child is compared with.
-use Rattle.std.proofs.Common.{◌≡◌, ◌⊎◌, ◌&&◌, ◌==◌, ◌+◌, ◌<◌, ℕ, Bool, true, false, cond, List, [], ◌∷◌, ◌++◌, length, map, Option, Some, None, IfSome, refl, sym, ap, ◌∙◌, subst, inl, inr, ⊎_elim, arith}
+use Rattle.std.proofs.Common.{◌≡◌, ◌⊎◌, ◌+◌, ◌<◌, ℕ, Bool, true, false, cond, List, [], ◌∷◌, ◌++◌, length, Option, Some, None, IfSome, refl, sym, ap, ◌∙◌, subst, inl, inr, ⊎_elim, arith}
 use Rattle.std.specs.List.{Contains}
 use Rattle.std.proofs.lemmas.Bool.Decides.{nat_tests}
-use Rattle.std.proofs.lemmas.Option.{IfSome_then}
 use Rattle.wp_task.specs.Task.{PlanningTask}
 use Rattle.wp_task.specs.Novelty.{Generated}
 use Rattle.wp_task.proofs.Members.{In, In-from_Contains, Contains-from_In, In-map, In-map_cases, In-append_left, In-append_right}
@@ -21,7 +20,7 @@ use Rattle.wp_commit.specs.declared.searched.Searched.{Searched}
 use Rattle.wp_commit.specs.Newborns.{newborns_of}
 use Rattle.wp_commit.specs.Latest.{latest_of, IsOfRoot, IsBirthOf, AreBirths, HasLatestState, IsNoted, AreNoted}
 use Rattle.wp_commit.specs.Entering.{IsEarlier, HasBirth}
-use Rattle.wp_commit.specs.Searched.{shown_kept, shown, HoldsAt}
+use Rattle.wp_commit.specs.Searched.{HoldsAt}
 use Rattle.wp_commit.proofs.TakeLemmas.{node_for}
 
 -- ---- what is noted

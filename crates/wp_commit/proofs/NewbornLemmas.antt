@@ -16,6 +16,7 @@ use Rattle.wp_plain.specs.Nodes.{Node, Path, no_path, extended}
 use Rattle.wp_plain.specs.Expansion.{keeps, node_of}
 use Rattle.wp_plain.specs.Explored.{bare, numbered, all_numbered, track_at, track_number}
 use Rattle.wp_plain.proofs.ListLemmas.{track-kept}
+use Rattle.wp_ahead.specs.Laws.{GoesOn}
 use Rattle.wp_commit.specs.declared.newborn.Newborn.{Newborn}
 use Rattle.wp_commit.specs.Newborns.{newborns_of, kept_as, with_newborns, waiting_of}
 use Rattle.wp_commit.specs.Searched.{shown_kept, shown}
@@ -70,6 +71,24 @@ module _ (settings : Settings) (parent track : ℕ) where
         rest (with_kept parent track nodes x) (omega (arith, length-append nodes.tracks (option_to_list x.child.fresh)))
         ∙ get_or_append_left nodes.tracks (option_to_list x.child.fresh) [] i within
     by false rest = rest nodes within
+
+  -- nodes and tracks are added after those that are there
+  pub nodes-go-on : (nodes : Keeping) (xs : List Newborn) → GoesOn nodes (with_newborns settings parent track nodes xs)
+  nodes-go-on nodes [] = record { more = []; kept = sym (append-nil nodes.kept); more_tracks = []; tracks = sym (append-nil nodes.tracks) }
+  nodes-go-on nodes (x ∷ xs) = by (stays settings x) (λ n. nodes-go-on n xs) where
+    by : (b : Bool) → ((n : Keeping) → GoesOn n (with_newborns settings parent track n xs)) →
+        GoesOn nodes (with_newborns settings parent track (with_one parent track nodes x b) xs)
+    by true rest =
+        let k = kept_as parent (track_number (length nodes.tracks) track x.child.fresh) x in
+        let own = option_to_list x.child.fresh in
+        let on = rest (with_kept parent track nodes x) in
+        record {
+          more = k ∷ on.more;
+          kept = on.kept ∙ append_assoc nodes.kept (k ∷ []) on.more;
+          more_tracks = own ++ on.more_tracks;
+          tracks = on.tracks ∙ append_assoc nodes.tracks own on.more_tracks;
+        }
+    by false rest = rest nodes
 
   -- a node that is kept of a newborn, on the track that it has
   pub record IsKeptNewborn (tracks later : List (List ℕ)) (xs : List Newborn) (k : Kept) : Type 0 where

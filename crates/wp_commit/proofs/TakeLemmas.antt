@@ -1,7 +1,7 @@
 -- The first node of the open list is the first waiting node of the moment, and it is kept.
-use Rattle.std.proofs.Common.{◌≡◌, ◌≢◌, ◌⊎◌, ◌==◌, ◌&&◌, ◌||◌, ◌<◌, ◌+◌, ℕ, zero, suc, nat_lt, Bool, true, false, List, [], ◌∷◌, Option, Some, None, length, map, get_or, set, filter, refl, sym, ap, ◌∙◌, subst, inl, inr, arith}
-use Rattle.std.specs.Prelude.{MatchOption, Contains, IfSome, IfNone}
-use Rattle.std.proofs.lemmas.Bool.{both_ways}
+use Rattle.std.proofs.Common.{◌≡◌, ◌≢◌, ◌⊎◌, ◌==◌, ◌&&◌, ◌||◌, ◌<◌, ◌+◌, ℕ, zero, suc, nat_lt, Bool, true, false, cond, is_some, List, [], ◌∷◌, Option, Some, None, length, map, get_or, set, filter, refl, sym, ap, ◌∙◌, subst, inl, inr, arith}
+use Rattle.std.specs.Prelude.{MatchOption, All, Contains, IfSome, IfNone}
+use Rattle.std.proofs.lemmas.Bool.{both_ways, eq-eqb}
 use Rattle.std.proofs.lemmas.Bool.Decides.{nat_tests}
 use Rattle.std.proofs.lemmas.List.Elements.{All-contains_itself, All-weaker}
 use Rattle.wp_task.specs.Task.{PlanningTask}
@@ -11,7 +11,7 @@ use Rattle.wp_novel.specs.NoveltyTables.{NoveltyTables}
 use Rattle.wp_queue.specs.declared.queue.Waiting.{Waiting}
 use Rattle.wp_queue.specs.OpenList.{waiting, IsBefore, IsTaken}
 use Rattle.wp_nodes.specs.declared.kept.Kept.{Kept}
-use Rattle.wp_nodes.specs.KeptNodes.{Keeping}
+use Rattle.wp_nodes.specs.KeptNodes.{Keeping, node_of, IsKept}
 use Rattle.wp_nodes.specs.Links.{along, FollowLinks}
 use Rattle.wp_plain.specs.declared.settings.Settings.{Settings}
 use Rattle.wp_plain.specs.Nodes.{FirstIsLeast, Node, comes_before, first_waiting, IsFirst, left}
@@ -19,6 +19,7 @@ use Rattle.wp_plain.specs.Run.{Moment}
 use Rattle.wp_plain.specs.Numbers.{CountUp}
 use Rattle.wp_plain.specs.Steps.{HasTakenFirst}
 use Rattle.wp_plain.proofs.NumberLemmas.{number_below, one_node, node_there, CountUp-set, In-set_cases}
+use Rattle.wp_ahead.specs.Laws.{AreMarked}
 use Rattle.wp_commit.specs.declared.searched.Searched.{Searched}
 use Rattle.wp_commit.specs.Searched.{shown_kept, shown, plans_in, AreKept, IsWaiting, AreWaiting, HoldsAt, StandsAt, IsTakenAt, without}
 use Rattle.wp_commit.proofs.NewbornLemmas.{waiting_node}
@@ -189,6 +190,16 @@ module _ (task : PlanningTask) (settings : Settings) (s : Searched) (tables : No
       let found = taken_first least new number stands taken in (found.node, found.first, (x, found.taken))
 
 -- ---- kept nodes of a moment
+-- a node that is there is kept under its number
+kept-there : (kept : List Kept) (k : Kept) → In k kept → IsKept kept k.number
+kept-there [] k there = absurd there
+kept-there (x ∷ kept) k (inl same) =
+    ap (λ (b : Bool). is_some (cond b (Some x) (node_of kept k.number))) (ap (λ (y : Kept). y.number == k.number) (sym same) ∙ eq-eqb k.number k.number refl)
+kept-there (x ∷ kept) k (inr later) = by (x.number == k.number) (kept-there kept k later) where
+  by : (b : Bool) → IsKept kept k.number → is_some (cond b (Some x) (node_of kept k.number)) ≡ true
+  by true rest = refl
+  by false rest = rest
+
 module _ (task : PlanningTask) (settings : Settings) (s : Searched) (tables : NoveltyTables) (m : Moment) (holds : HoldsAt task settings s tables m) where
   -- a node that is not pruned is kept
   pub kept_for : (node : Node) → Contains m.nodes node → node.kept ≡ true → (k : Kept) × Contains s.nodes.kept k × (shown_kept k ≡ shown node)
@@ -217,6 +228,24 @@ module _ (task : PlanningTask) (settings : Settings) (s : Searched) (tables : No
       ap (λ (p : Generated × ℕ). p.0.number) (sym found.3) ∙ number in
       found.3
       ∙ ap shown (one_node 0 m.nodes holds.numbers.numbers found.0 node (In-from_Contains found.0 m.nodes found.1) (In-from_Contains node m.nodes there) same)
+
+  -- what waits is kept
+  pub waiting-kept : (node : Node) → AreWaiting s.queue (without m.nodes node) → All (λ x. IsKept s.nodes.kept x.number) s.queue
+  waiting-kept node are =
+      All-weaker (Contains s.queue) (λ (x : Waiting). IsKept s.nodes.kept x.number) (λ x there.
+      let z : (z : Node) × Contains (without m.nodes node) z × (z.waits ≡ true) × IsWaiting x z = (are.waits x).0 there in
+      let before : Contains m.nodes z.0 = was_there z.0 (In-set_cases m.nodes node.generated.number (left node) z.0 (In-from_Contains z.0 (without m.nodes node) z.1)) z.2 in
+      let k = kept_for z.0 before (are.kept z.0 z.1 z.2) in
+      let number : k.0.number ≡ x.number = ap (λ (p : Generated × ℕ). p.0.number) k.2 ∙ ap (λ (w : Waiting). w.number) (sym z.3) in
+      subst (IsKept s.nodes.kept) number (kept-there s.nodes.kept k.0 (In-from_Contains k.0 s.nodes.kept k.1)))
+      s.queue (All-contains_itself s.queue) where
+        was_there : (z : Node) → (z ≡ left node) ⊎ In z m.nodes → z.waits ≡ true → Contains m.nodes z
+        was_there z (inl is) waits = absurd (both_ways z.waits (ap (λ n. n.waits) is) waits)
+        was_there z (inr old) waits = Contains-from_In z m.nodes old
+
+-- what is kept of each node can stand for its state
+pub marked-nodes : (task : PlanningTask) (nodes : Keeping) (m : Moment) → AreKept task nodes m → AreMarked task nodes
+marked-nodes task nodes m are k there = let marked = (are.on_paths k there).marked in (marked.size, marked.fits)
 
 -- ---- plans
 -- the plans of a moment follow the links of the kept nodes

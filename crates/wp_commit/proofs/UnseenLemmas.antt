@@ -1,5 +1,5 @@
 -- A state among those of kept nodes, by what a look-up answers.
-use Rattle.std.proofs.Common.{cond, subst, [], ◌∷◌, ◌≡◌, ◌≢◌, ◌==◌, ◌||◌, ℕ, Bool, true, false, List, ◌++◌, map, Option, Some, None, IfSome, IfNone, is_some, refl, sym, ap, ◌∙◌}
+use Rattle.std.proofs.Common.{cond, [], ◌∷◌, ◌≡◌, ◌≢◌, ◌==◌, ◌||◌, ℕ, Bool, true, false, List, ◌++◌, map, Option, Some, None, IfSome, IfNone, is_some, refl, sym, ap, ◌∙◌}
 use Rattle.std.specs.Bool.{beq}
 use Rattle.std.specs.Cmp.{booleans_Decides}
 use Rattle.std.specs.Cmp.Lexicographic.{pointwise}
@@ -12,9 +12,9 @@ use Rattle.wp_nodes.specs.declared.kept.Kept.{Kept}
 use Rattle.wp_nodes.specs.KeptNodes.{HasState, has_state}
 use Rattle.wp_nodes.proofs.NumberLemmas.{find-gives}
 use Rattle.wp_nodes.proofs.StateLemmas.{other_state}
-use Rattle.wp_plain.specs.Nodes.{Successor}
 use Rattle.wp_plain.proofs.ListLemmas.{list_any-map}
 use Rattle.indexmap.specs.IndexSet.{insert_key}
+use Rattle.wp_commit.specs.declared.unseen.Reached.{Reached}
 use Rattle.wp_commit.specs.Expansions.{states_of}
 
 is_kept_state : (kept : List Kept) (state : List Bool) (number : ℕ) → HasState kept state number → list_any (pointwise beq state) (states_of kept) ≡ true
@@ -45,21 +45,21 @@ unfound-repeat kept seen state None none is =
     ∙ ap (λ (b : Bool). b || list_any (pointwise beq state) seen) (no_kept_state kept state none)
 unfound-repeat kept seen state (Some number) none is = absurd (cc)
 
--- what becomes of the successors so far with one more, where its state is that of a kept node, and where it is not
-abbrev pub with_unseen : List Kept → List Successor → Successor → List Successor
+-- what becomes of the states so far with one more, where it is that of a kept node, and where it is not
+abbrev pub with_unseen : {T : Type 0} → List Kept → List (Reached T) → Reached T → List (Reached T)
 with_unseen kept before x =
     cond (list_any (pointwise beq x.state) (states_of kept ++ map (λ y. y.state) before)) before (before ++ x ∷ [])
 
-pub unseen-kept : (kept : List Kept) (before : List Successor) (x : Successor) (state : List Bool) (found : Option ℕ) → state ≡ x.state →
-    IfSome found (HasState kept state) → is_some found ≡ true → before ≡ with_unseen kept before x
-unseen-kept kept before x state found same has some =
+pub unseen-kept : {T : Type 0} (kept : List Kept) (before : List (Reached T)) (x : Reached T) (found : Option ℕ) →
+    IfSome found (HasState kept x.state) → is_some found ≡ true → before ≡ with_unseen kept before x
+unseen-kept kept before x found has some =
     sym (cond-true (list_any (pointwise beq x.state) (states_of kept ++ map (λ y. y.state) before)) before (before ++ x ∷ [])
-    (found-repeat kept (map (λ y. y.state) before) x.state found (subst (λ s. IfSome found (HasState kept s)) same has) some))
+    (found-repeat kept (map (λ y. y.state) before) x.state found has some))
 
-pub unseen-inserted : (kept : List Kept) (before : List Successor) (x : Successor) (state : List Bool) (found : Option ℕ) → state ≡ x.state →
-    IfNone found (All (λ k. k.state ≢ state) kept) → is_some found ≡ false →
-    insert_key (λ (a b : Successor). pointwise beq a.state b.state) before x ≡ with_unseen kept before x
-unseen-inserted kept before x state found same none is =
+pub unseen-inserted : {T : Type 0} (kept : List Kept) (before : List (Reached T)) (x : Reached T) (found : Option ℕ) →
+    IfNone found (All (λ k. k.state ≢ x.state) kept) → is_some found ≡ false →
+    insert_key (λ (a b : Reached T). pointwise beq a.state b.state) before x ≡ with_unseen kept before x
+unseen-inserted {T = T} kept before x found none is =
     ap (λ b. cond b before (before ++ x ∷ []))
-    (sym (unfound-repeat kept (map (λ y. y.state) before) x.state found (subst (λ s. IfNone found (All (λ k. k.state ≢ s) kept)) same none) is
-    ∙ list_any-map (pointwise beq x.state) (λ (y : Successor). y.state) before))
+    (sym (unfound-repeat kept (map (λ y. y.state) before) x.state found none is
+    ∙ list_any-map (pointwise beq x.state) (λ (y : Reached T). y.state) before))

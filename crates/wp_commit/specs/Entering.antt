@@ -1,6 +1,6 @@
 -- The children of an expansion as births: which of their atoms are fresh, and what novelty tables ask of them. A child's fresh atoms are
 -- those that an earlier birth of its pair lacks, so that each tuple without one was marked by that birth or before it.
-use Rattle.std.specs.Prelude.{◌≡◌, ◌⊎◌, ◌<◌, ℕ, Bool, true, false, List, length, Some, IfSome, Contains}
+use Rattle.std.specs.Prelude.{◌≡◌, ◌⊎◌, ◌<◌, ℕ, Bool, false, List, length, IfSome, Contains}
 use Rattle.wp_task.specs.Set.{lists, IsIn}
 use Rattle.wp_task.specs.Novelty.{Generated}
 use Rattle.wp_count.specs.declared.brood.Child.{Child}

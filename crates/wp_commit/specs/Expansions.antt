@@ -3,20 +3,21 @@ use Rattle.std.specs.Prelude.{◌≡◌, ◌+◌, ◌^◌, ◌<◌, ◌≤◌, �
 use Rattle.wp_task.specs.declared.acts.Act.{Act}
 use Rattle.wp_task.specs.Task.{PlanningTask, act_at, result_of}
 use Rattle.wp_count.specs.declared.brood.Child.{Child}
-use Rattle.wp_count.specs.Broods.{children_of}
 use Rattle.wp_novel.specs.NoveltyTables.{NoveltyTables, counters_of, open_pairs, IsAtHome}
 use Rattle.wp_novel.specs.StandsFor.{StandsFor}
 use Rattle.wp_nodes.specs.declared.kept.Kept.{Kept}
 use Rattle.wp_nodes.specs.KeptNodes.{Keeping, node_of, IsKept, AreLinked}
 use Rattle.wp_plain.specs.declared.settings.Settings.{Settings}
-use Rattle.wp_plain.specs.Nodes.{Node, Successor, generated_in}
+use Rattle.wp_plain.specs.Nodes.{Node, generated_in}
 use Rattle.wp_plain.specs.Pairs.{with_pair}
 use Rattle.wp_plain.specs.Expansion.{unseen}
-use Rattle.wp_plain.specs.Explored.{all_numbered, child_pair, track_at}
+use Rattle.wp_plain.specs.Explored.{all_numbered, child_pair}
 use Rattle.wp_plain.specs.Run.{Moment}
+use Rattle.wp_ahead.specs.Jobs.{node_brood}
 use Rattle.wp_commit.specs.declared.births.Numbered.{Numbered}
 use Rattle.wp_commit.specs.declared.evaluation.Expansion.{Expansion}
 use Rattle.wp_commit.specs.declared.searched.Searched.{Searched}
+use Rattle.wp_commit.specs.declared.unseen.Reached.{Reached}
 use Rattle.wp_commit.specs.Newborns.{newborns_of, AreNew, AreUnopened}
 use Rattle.wp_commit.specs.Searched.{IsTakenAt}
 
@@ -24,12 +25,17 @@ abbrev pub states_of : List Kept → List (List Bool)
 states_of kept = map (λ k. k.state) kept
 
 -- the successors that some actions lead to
-abbrev pub successors_by : List Act → List Bool → List ℕ → List Successor
-successors_by acts state numbers = map (λ a. record { act = a; state = result_of (act_at acts a) state }) numbers
+abbrev pub successors_by : List Act → List Bool → List ℕ → List (Reached ℕ)
+successors_by acts state numbers = map (λ a. record { state = result_of (act_at acts a) state; rest = a }) numbers
 
 -- the children of a kept node, repeats among them
 abbrev pub brood_of : PlanningTask → Keeping → Kept → List Child
-brood_of task nodes k = children_of task k.state k.mark (track_at nodes.tracks k.mark.track)
+brood_of task nodes k = (node_brood task nodes k).children
+
+-- the children of a brood that are no repeats of these states or of each other, and how many of the brood are
+pub record AreNoRepeats (seen : List (List Bool)) (brood children : List Child) (repeats : ℕ) : Type 0 where
+  pub unseen_are : children ≡ unseen (λ c. c.state) seen brood
+  pub repeats_are : repeats + length children ≡ length brood
 
 -- the children of the kept node of the number that are no repeats, how many are, and the pairs of counters that are to be opened
 pub record IsExpansionOf (task : PlanningTask) (s : Searched) (tables : NoveltyTables) (number : ℕ) (x : Expansion) : Type 0 where

@@ -1,5 +1,5 @@
 -- The latest birth of each pair of counters, by what is kept of it.
-use Rattle.std.specs.Prelude.{◌≡◌, ◌⊎◌, ℕ, Bool, List, Option, Some, None, IfSome, Contains}
+use Rattle.std.specs.Prelude.{◌≡◌, ◌⊎◌, Bool, List, Option, Some, None, IfSome, Contains}
 use Rattle.std.specs.Map.{lookup}
 use Rattle.wp_task.specs.Novelty.{Generated}
 use Rattle.wp_novel.specs.declared.birth.Pair.{Pair}

@@ -1,12 +1,10 @@
 -- What the search keeps, and the moments of the definition that it stands for: the kept nodes in a table by state, the
 -- waiting ones in an open list, and of the others their marks in the novelty tables alone.
-use Rattle.std.specs.Prelude.{◌≡◌, ◌↔◌, ℕ, Bool, true, false, List, [], ◌∷◌, length, map, filter, slice_set, Some, Contains}
+use Rattle.std.specs.Prelude.{◌≡◌, ◌↔◌, ℕ, Bool, true, false, List, [], ◌∷◌, length, map, filter, slice_set, Contains}
 use Rattle.std.specs.Bool.{MatchBool}
 use Rattle.std.specs.List.{sum_by}
 use Rattle.wp_task.specs.Task.{PlanningTask, IsReachable}
 use Rattle.wp_task.specs.Novelty.{Generated}
-use Rattle.wp_count.specs.declared.brood.Child.{Child}
-use Rattle.wp_count.specs.Broods.{children_of}
 use Rattle.wp_count.specs.Laws.{IsMarked}
 use Rattle.wp_tuples.specs.Placing.{Placing}
 use Rattle.wp_novel.specs.MarkedTuples as marked
@@ -15,7 +13,7 @@ use Rattle.wp_novel.specs.StandsFor.{StandsFor}
 use Rattle.wp_queue.specs.declared.queue.Waiting.{Waiting}
 use Rattle.wp_queue.specs.OpenList.{waiting}
 use Rattle.wp_nodes.specs.declared.kept.Kept.{Kept}
-use Rattle.wp_nodes.specs.KeptNodes.{Keeping, node_of}
+use Rattle.wp_nodes.specs.KeptNodes.{Keeping}
 use Rattle.wp_nodes.specs.Links.{along}
 use Rattle.wp_plain.specs.declared.settings.Settings.{Settings}
 use Rattle.wp_plain.specs.declared.ending.Counts.{Counts}
@@ -25,6 +23,7 @@ use Rattle.wp_plain.specs.Run.{Moment, counts_of, run}
 use Rattle.wp_plain.specs.Explored.{track_at}
 use Rattle.wp_plain.specs.Steps.{Asked}
 use Rattle.wp_plain.specs.Numbers.{IsNumbered}
+use Rattle.wp_ahead.specs.KeptBroods.{KeptBroods, Fit}
 use Rattle.wp_commit.specs.declared.searched.Searched.{Searched}
 use Rattle.wp_commit.specs.Latest.{AreBirths}
 use Rattle.wp_commit.specs.Phases.{Calls, WorksAll}
@@ -57,11 +56,6 @@ pub record IsOnPath (task : PlanningTask) (paths : List Path) (tracks : List (Li
 pub record AreKept (task : PlanningTask) (nodes : Keeping) (m : Moment) : Type 0 where
   pub nodes_are : map shown_kept nodes.kept ≡ map shown (filter (λ n. n.kept) m.nodes)
   pub on_paths : (k : Kept) → Contains nodes.kept k → IsOnPath task m.paths nodes.tracks k
-
--- the children of a kept node
-abbrev pub IsBroodOf : PlanningTask → Keeping → ℕ → List Child → Type 0
-IsBroodOf task nodes number brood = (k : Kept) → node_of nodes.kept number ≡ Some k →
-    brood ≡ children_of task k.state k.mark (track_at nodes.tracks k.mark.track)
 
 -- ---- the open list
 abbrev pub IsWaiting : Waiting → Node → Type 0
@@ -121,11 +115,13 @@ pub record IsTakenAt (task : PlanningTask) (settings : Settings) (s : Searched) 
   pub named : node.generated.number ≡ number
 
 -- ---- what a call may ask
--- what a run needs throughout was made for what is asked, so many tuples have places, and the jobs of a phase are all worked
-pub record IsRunOf {W : Type 0} (calls : Calls W) (work : W) (run asked : Asked) (tuples : ℕ) : Type 0 where
+-- what a run needs throughout was made for what is asked, so many tuples have places, the jobs of a phase are all worked, and the broods
+-- that were made ahead are those of their nodes
+pub record IsRunOf {W : Type 0} (calls : Calls W) (work : W) (run asked : Asked) (tuples : ℕ) (nodes : Keeping) (broods : KeptBroods) : Type 0 where
   pub same : run ≡ asked
   pub all : run.tuples ≡ tuples
   pub works : WorksAll calls work
+  pub fit : Fit run.task nodes broods
 
 abbrev pub HoldsAtSome : PlanningTask → Settings → Searched → NoveltyTables → Type 0
 HoldsAtSome task settings s tables = (m : Moment) × HoldsAt task settings s tables m

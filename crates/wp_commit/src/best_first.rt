@@ -10,6 +10,8 @@ ghost use Rattle.wp_plain.specs.Ranges.{AreInRange};
 ghost use Rattle.wp_plain.specs.Laws.{AnswersFor};
 ghost use Rattle.wp_plain.specs.Pairs.{all_tuples};
 ghost use Rattle.wp_plain.specs.Run.{run, ending_of};
+ghost use Rattle.wp_ahead.specs.Jobs.{CanWork};
+ghost use Rattle.wp_commit.specs.Phases.{AreWorked};
 ghost use Rattle.wp_commit.specs.Searched.{LeavesTables};
 
 use crate::marking::work_all;
@@ -18,6 +20,7 @@ use crate::run::Run;
 use std::alloc::{AllocError, Global};
 use std::mem;
 use std::thread::Threads;
+use wp_ahead::AheadJobs;
 use wp_edge::Gate;
 use wp_novel::{MarkJobs, Tables};
 use wp_plain::{Ending, Settings, endings_answer, exceeds, root_alone, search_from, tuple_count};
@@ -86,10 +89,13 @@ pub fn search_in<R: Threads + Sync, G: Gate>(
     let index = TupleIndex::new(task.atoms(), settings.width);
     let empty = mem::replace(tables, Tables::new(alloc, index, settings.words));
     // The jobs are worked from here on, where the bounds of the threads and of the gate are known of every thread.
-    let work = |whole: &Tables<TupleIndex>, jobs: MarkJobs| -> MarkJobs
-        requires { All (IsJobOf (placed all_placed whole.now) false) jobs }
-        ensures { result ≡ map (worked_job (all_placed whole.now.index)) jobs }
-    { work_all(rt, whole, gate, jobs) };
+    let work = |own: &Run, whole: &Tables<TupleIndex>, marks: MarkJobs, aheads: AheadJobs| -> (
+        MarkJobs,
+        AheadJobs,
+    )
+        requires { All (IsJobOf (placed all_placed whole.now) false) marks × All (CanWork own.now.task) aheads }
+        ensures { (result.0 ≡ map (worked_job (all_placed whole.now.index)) marks) × AreWorked own.now.task aheads result.1 }
+    { work_all(rt, own, whole, gate, marks, aheads) };
     let mut store = opening(own, work, empty)?;
     let ending = search_from(&asked, &mut store, watchers)?;
     *tables = store.tables;

@@ -11,7 +11,10 @@ ghost use Rattle.wp_commit.specs.Newborns.{rest_of, child_with, newborns_of};
 ghost use Rattle.wp_commit.specs.Entering.{IsFresh, StandsForEarlier, CanBeBorn, CanBeAsked};
 ghost use Rattle.wp_commit.specs.Expansions.{IsExpansionOf, IsEnteredOf};
 ghost use Rattle.wp_commit.specs.Searched.{IsTakenAtSome};
-ghost use Rattle.wp_commit.specs.Phases.{WorksAll};
+ghost use Rattle.wp_nodes.specs.KeptNodes.{IsKept};
+ghost use Rattle.wp_ahead.specs.KeptBroods.{Fit};
+ghost use Rattle.wp_ahead.specs.Laws.{AreMarked};
+ghost use Rattle.wp_commit.specs.Phases.{WorksAll, AreMade};
 
 use crate::evaluation::Expansion;
 use crate::fresh::fresh_of;
@@ -21,6 +24,7 @@ use crate::pairs::open_all;
 use crate::run::Run;
 use crate::searched::{Searched, node_at};
 use std::alloc::{AllocError, Global};
+use wp_ahead::{AheadJobs, Broods, jobs_can_be_worked, worked_jobs_fit};
 use wp_count::{Child, counters_are_carried};
 use wp_nodes::Kept;
 use wp_novel::{Birth, Births, MarkJobs, Pair, Tables, no_tuple_is_old, shared_tuples_are_marked};
@@ -45,23 +49,28 @@ pub(crate) struct Rest {
 }
 
 /// Opens the pairs of an expansion, which are within the limit of words, numbers its children, marks them in the tables, and
-/// reads their novelties. Where memory is refused the tables are spent.
-pub(crate) fn enter<W: Fn(&Tables<TupleIndex>, MarkJobs) -> MarkJobs>(
+/// reads their novelties. In the same phase jobs make broods of the first nodes that wait, and are given back. Where memory is refused the
+/// tables are spent.
+pub(crate) fn enter<W: Fn(&Run, &Tables<TupleIndex>, MarkJobs, AheadJobs) -> (MarkJobs, AheadJobs)>(
     run: &Run,
     work: &W,
     searched: &Searched,
     tables: &mut Tables<TupleIndex>,
+    broods: &mut Broods,
     number: u64,
     expansion: Expansion,
-) -> Result<Numbered, AllocError>
+) -> Result<(Numbered, AheadJobs), AllocError>
     requires works { WorksAll W.Fn work.now }
     requires taken { IsTakenAtSome run.now.task run.now.settings searched.now (placed all_placed tables.old) number }
     requires evaluated { IsExpansionOf run.now.task searched.now (placed all_placed tables.old) number expansion }
     requires numbers { searched.now.numbered + length expansion.children.items < 2 ^ 63 }
     requires few { exceeds run.now.settings.words (length (open_pairs (placed all_placed tables.old)) + length expansion.pairs.items)
         (all_placed tables.old.index).len ≡ false }
-    ensures { IfOk result (IsEnteredOf run.now.task run.now.settings searched.now (placed all_placed tables.old) number expansion
-        (placed all_placed tables.new)) }
+    requires fit { Fit run.now.task searched.now.nodes broods.old }
+    ensures entered { IfOk result (λ parts. IsEnteredOf run.now.task run.now.settings searched.now (placed all_placed tables.old) number expansion
+        (placed all_placed tables.new) parts.0) }
+    ensures aheads { IfOk result (λ parts. AreMade run.now.task searched.now.nodes parts.1) }
+    ensures fit { OnOk result (Fit run.now.task searched.now.nodes broods.new) }
 {
     counters_are_carried();
     children_are_numbered();
@@ -73,28 +82,33 @@ pub(crate) fn enter<W: Fn(&Tables<TupleIndex>, MarkJobs) -> MarkJobs>(
     } = expansion;
     let parent = node_at(run, searched, tables, number);
     open_all(tables, pairs)?;
-    let newborns = number_all(run, work, searched, parent, tables, children)?;
-    Ok(Numbered { newborns, repeats })
+    let (newborns, aheads) = number_all(run, work, searched, parent, tables, broods, children)?;
+    Ok((Numbered { newborns, repeats }, aheads))
 }
 
 /// Numbers the children of the node `parent`, marks them in the tables, and reads their novelties: all are marked before the first of
-/// them is asked for, since a later one makes no tuple old for it. Where memory is refused the tables are spent.
-fn number_all<W: Fn(&Tables<TupleIndex>, MarkJobs) -> MarkJobs>(
+/// them is asked for, since a later one makes no tuple old for it. Beside the marks broods of nodes that wait are made. Where memory is
+/// refused the tables are spent.
+fn number_all<W: Fn(&Run, &Tables<TupleIndex>, MarkJobs, AheadJobs) -> (MarkJobs, AheadJobs)>(
     run: &Run,
     work: &W,
     searched: &Searched,
     parent: &Kept,
     tables: &mut Tables<TupleIndex>,
+    broods: &mut Broods,
     children: Vec<Child>,
-) -> Result<Vec<Newborn>, AllocError>
+) -> Result<(Vec<Newborn>, AheadJobs), AllocError>
     requires works { WorksAll W.Fn work.now }
     requires home { IsAtHome (placed all_placed tables.old) }
     requires ready { All (CanBeBorn (placed all_placed tables.old)) children.items }
     requires numbers { searched.now.numbered + length children.items < 2 ^ 63 }
     requires later { IfSome tables.old.last (λ last. last < searched.now.numbered) }
     requires earlier { StandsForEarlier searched.now parent.now (placed all_placed tables.old) }
-    ensures newborns { IfOk result (λ newborns. (nodes : List Generated) → StandsFor (placed all_placed tables.old) nodes →
-        newborns.items ≡ newborns_of (all_placed tables.old.index).width
+    requires waiting { All (λ x. IsKept searched.now.nodes.kept x.number) searched.now.queue }
+    requires marked { AreMarked run.now.task searched.now.nodes }
+    requires fit { Fit run.now.task searched.now.nodes broods.old }
+    ensures newborns { IfOk result (λ parts. (nodes : List Generated) → StandsFor (placed all_placed tables.old) nodes →
+        parts.0.items ≡ newborns_of (all_placed tables.old.index).width
         (nodes ++ all_numbered searched.now.numbered children.items) searched.now.numbered children.items) }
     ensures stands { OnOk result ((nodes : List Generated) → StandsFor (placed all_placed tables.old) nodes →
         StandsFor (placed all_placed tables.new) (nodes ++ all_numbered searched.now.numbered children.items)) }
@@ -102,13 +116,26 @@ fn number_all<W: Fn(&Tables<TupleIndex>, MarkJobs) -> MarkJobs>(
     ensures pairs { OnOk result (open_pairs (placed all_placed tables.new) ≡ open_pairs (placed all_placed tables.old)) }
     ensures index { OnOk result (all_placed tables.new.index ≡ all_placed tables.old.index) }
     ensures limit { OnOk result (tables.new.limit ≡ tables.old.limit) }
+    ensures aheads { IfOk result (λ parts. AreMade run.now.task searched.now.nodes parts.1) }
+    ensures fit { OnOk result (Fit run.now.task searched.now.nodes broods.new) }
 {
     // What an earlier birth shares with a child is marked, and where all atoms of a child are new nothing is shared.
     shared_tuples_are_marked();
     no_tuple_is_old();
+    // Jobs for the nodes that wait can be worked, and what they make are the broods of these nodes.
+    jobs_can_be_worked();
+    worked_jobs_fit();
     let (births, rests) = births_of(run.alloc, searched, parent, children)?;
-    let births = mark_all(run, work, tables, births)?;
-    newborns_of(run.alloc, tables, births.into_vec(), rests)
+    // The queue is looked at before the children wait there: with them a brood could be made of a node that has no number yet.
+    let aheads = broods.jobs(
+        run.alloc,
+        &searched.queue,
+        &searched.nodes,
+        run.settings.ahead,
+    )?;
+    let (births, aheads) = mark_all(run, work, tables, births, aheads)?;
+    let newborns = newborns_of(run.alloc, tables, births.into_vec(), rests)?;
+    Ok((newborns, aheads))
 }
 
 /// The children of the node `parent` as births, which have their states, and what else they have.

@@ -1,18 +1,23 @@
-//! The evaluation of an expansion: repeats go out before any counter is computed.
-ghost use Rattle.std.specs.Prelude.{◌≡◌, length, map, All, IfOk, OnOk};
+//! The evaluation of an expansion, from the brood that was made ahead of it or now.
+ghost use Rattle.std.specs.Prelude.{◌≡◌, ◌<◌, length, map, All, IfOk, IfSome, OnOk};
 ghost use Rattle.wp_count.specs.Broods.{child_of, IsCountOn};
 ghost use Rattle.wp_relax.specs.Workspace.{room_for};
 ghost use Rattle.wp_tuples.specs.Placing.{all_placed};
 ghost use Rattle.wp_novel.specs.NoveltyTables.{placed};
 ghost use Rattle.wp_commit.specs.Searched.{IsTakenAtSome};
-ghost use Rattle.wp_commit.specs.Expansions.{IsExpansionOf};
+ghost use Rattle.wp_ahead.specs.Jobs.{track_of};
+ghost use Rattle.wp_ahead.specs.KeptBroods.{Fit};
+ghost use Rattle.wp_commit.specs.Expansions.{states_of, brood_of, AreNoRepeats, IsExpansionOf};
 
+use crate::made::made_children;
 use crate::pairs::new_pairs;
 use crate::run::Run;
 use crate::searched::{Searched, node_at};
 use crate::unseen::{Reached, unseen};
 use std::alloc::{AllocError, Global};
-use wp_count::{Child, evaluate};
+use wp_ahead::Broods;
+use wp_count::{Brood, Child, evaluate};
+use wp_nodes::{Kept, Nodes};
 use wp_novel::{Pair, Tables};
 use wp_relax::Workspace;
 use wp_succ::Successors;
@@ -28,21 +33,62 @@ pub(crate) struct Expansion {
     pub pairs: Vec<Pair>,
 }
 
-/// Evaluates the expansion of the node that was taken.
+/// Evaluates the expansion of the node that was taken. A brood that was made ahead of it is used, and is then gone.
 pub(crate) fn expansion_of(
     run: &mut Run,
     searched: &Searched,
     tables: &Tables<TupleIndex>,
+    broods: &mut Broods,
     number: u64,
 ) -> Result<Expansion, AllocError>
     requires taken { IsTakenAtSome run.old.task run.old.settings searched.now (placed all_placed tables.now) number }
+    requires fit { Fit run.old.task searched.now.nodes broods.old }
     ensures evaluated { IfOk result (IsExpansionOf run.old.task searched.now (placed all_placed tables.now) number) }
     ensures same { OnOk result (run.new ≡ run.old) }
+    ensures fit { OnOk result (Fit run.old.task searched.now.nodes broods.new) }
 {
     let node = node_at(run, searched, tables, number);
-    let track = searched.nodes.track(node.mark.track);
+    let made = broods.take(number);
+    let (children, repeats) = without_repeats(run, &searched.nodes, node, made)?;
+    let pairs = new_pairs(run.alloc, tables, &children)?;
+    Ok(Expansion {
+        children,
+        repeats,
+        pairs,
+    })
+}
+
+/// The children of a node that are no repeats, and how many are: those of its brood, where one was made, or evaluated now.
+fn without_repeats(
+    run: &mut Run,
+    nodes: &Nodes,
+    node: &Kept,
+    made: Option<Brood>,
+) -> Result<(Vec<Child>, u64), AllocError>
+    requires size { length node.now.state ≡ run.old.task.atoms }
+    requires tracked { node.now.mark.track < length nodes.now.tracks }
+    requires counts { IsCountOn run.old.task node.now.mark (track_of nodes.now node.now) }
+    requires made { IfSome made (λ brood. brood.children ≡ brood_of run.old.task nodes.now node.now) }
+    ensures children { IfOk result (λ parts. AreNoRepeats (states_of nodes.now.kept) (brood_of run.old.task nodes.now node.now) parts.0.items parts.1) }
+    ensures same { OnOk result (run.new ≡ run.old) }
+{
+    match made {
+        Some(brood) => made_children(run.alloc, nodes, brood),
+        None => children_now(run, nodes, node),
+    }
+}
+
+/// The same, evaluated now: repeats go out before any counter is computed.
+fn children_now(run: &mut Run, nodes: &Nodes, node: &Kept) -> Result<(Vec<Child>, u64), AllocError>
+    requires size { length node.now.state ≡ run.old.task.atoms }
+    requires tracked { node.now.mark.track < length nodes.now.tracks }
+    requires counts { IsCountOn run.old.task node.now.mark (track_of nodes.now node.now) }
+    ensures children { IfOk result (λ parts. AreNoRepeats (states_of nodes.now.kept) (brood_of run.old.task nodes.now node.now) parts.0.items parts.1) }
+    ensures same { OnOk result (run.new ≡ run.old) }
+{
+    let track = nodes.track(node.mark.track);
     let acts = run.succ.list(run.alloc, run.task, &node.state)?;
-    let reached = unseen(run.alloc, run.task, &searched.nodes, &node.state, &acts)?;
+    let reached = unseen(run.alloc, run.task, nodes, &node.state, &acts)?;
     let repeats = (acts.as_slice().len() - reached.len()) as u64;
     let children = children_of(
         run.alloc,
@@ -52,12 +98,7 @@ pub(crate) fn expansion_of(
         track,
         reached,
     )?;
-    let pairs = new_pairs(run.alloc, tables, &children)?;
-    Ok(Expansion {
-        children,
-        repeats,
-        pairs,
-    })
+    Ok((children, repeats))
 }
 
 /// The children in these states.
@@ -67,17 +108,17 @@ fn children_of(
     workspace: &mut Workspace,
     mark: &Mark,
     track: &Track,
-    reached: Vec<Reached>,
+    reached: Vec<Reached<u32>>,
 ) -> Result<Vec<Child>, AllocError>
     requires serves { workspace.old ≡ room_for task.now }
     requires sizes { All (λ x. length x.state ≡ task.now.atoms) reached.items }
     requires counts { IsCountOn task.now mark.now track.now }
-    ensures value { IfOk result (λ children. children.items ≡ map (λ x. child_of task.now mark.now track.now x.act x.state) reached.items) }
+    ensures value { IfOk result (λ children. children.items ≡ map (λ x. child_of task.now mark.now track.now x.rest x.state) reached.items) }
     ensures room { workspace.new ≡ workspace.old }
 {
     let mut children = Vec::with_capacity(alloc, reached.len())?;
     for next in reached {
-        let (act, state) = next.into_parts();
+        let Reached { state, rest: act } = next;
         let child = evaluate(alloc, task, workspace, act, state, mark, track)?;
         children.push(child)?;
     }

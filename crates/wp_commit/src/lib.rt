@@ -3,8 +3,9 @@
 //! Callers see that it ends as the definition of the run does (`wp_plain`), tells its watchers the events of that run, and
 //! leaves tables that stand for all numbered nodes. Inside, the first waiting node is taken from an ordered set, repeats are
 //! found by hashing states, and the novelty of a child is read from one word for each tuple of its state; nothing is scanned
-//! but the actions, once an expansion. What is kept is tied to the moments of the definition by `specs/Searched.antt`. It
-//! knows nothing of texts.
+//! but the actions, once an expansion. Beside the marks of an expansion the first waiting nodes may be evaluated ahead: what is
+//! evaluated is the same, whoever did it. What is kept is tied to the moments of the definition by `specs/Searched.antt`. It knows
+//! nothing of texts.
 #![tactic(auto)]
 
 pub mod best_first;
@@ -13,6 +14,7 @@ mod evaluation;
 mod fresh;
 mod keep;
 mod latest;
+mod made;
 mod marking;
 mod newborn;
 mod pairs;

@@ -8,6 +8,7 @@ ghost use Rattle.wp_novel.specs.StandsFor.{StandsFor};
 ghost use Rattle.wp_plain.specs.Pairs.{exceeds};
 ghost use Rattle.wp_plain.specs.Run.{opening};
 ghost use Rattle.wp_commit.specs.Searched.{IsIndexFor, StandsAt};
+ghost use Rattle.wp_ahead.specs.KeptBroods.{Fit};
 ghost use Rattle.wp_commit.specs.Phases.{WorksAll};
 
 use crate::latest::root_latest;
@@ -17,6 +18,7 @@ use crate::run::Run;
 use crate::searched::Searched;
 use crate::store::Store;
 use std::alloc::AllocError;
+use wp_ahead::{AheadJobs, Broods};
 use wp_count::counters_are_carried;
 use wp_nodes::{Kept, Nodes};
 use wp_novel::{Birth, Births, MarkJobs, Pair, Tables, no_tuple_is_old};
@@ -24,11 +26,9 @@ use wp_queue::Queue;
 use wp_tuples::TupleIndex;
 
 /// The root, marked in tables that are empty, kept and waiting.
-pub(crate) fn opening<W: Fn(&Tables<TupleIndex>, MarkJobs) -> MarkJobs>(
-    run: Run,
-    work: W,
-    tables: Tables<TupleIndex>,
-) -> Result<Store<W>, AllocError>
+pub(crate) fn opening<
+    W: Fn(&Run, &Tables<TupleIndex>, MarkJobs, AheadJobs) -> (MarkJobs, AheadJobs),
+>(run: Run, work: W, tables: Tables<TupleIndex>) -> Result<Store<W>, AllocError>
     requires works { WorksAll W.Fn work }
     requires index { IsIndexFor run.task run.settings (all_placed tables.index) }
     requires limit { tables.limit ≡ run.settings.words }
@@ -40,19 +40,22 @@ pub(crate) fn opening<W: Fn(&Tables<TupleIndex>, MarkJobs) -> MarkJobs>(
     ensures run { IfOk result (λ store. store.run ≡ run.entry) }
     ensures index { IfOk result (λ store. all_placed store.tables.index ≡ all_placed tables.index) }
     ensures works { IfOk result (λ store. WorksAll W.Fn store.work) }
+    ensures fit { IfOk result (λ store. Fit run.entry.task store.searched.nodes store.broods) }
 {
     let mut tables = tables;
-    let searched = root_of(&run, &work, &mut tables)?;
+    let searched = root_kept(&run, &work, &mut tables)?;
+    let broods = Broods::new(run.alloc);
     Ok(Store {
         run,
         work,
         searched,
         tables,
+        broods,
     })
 }
 
 /// The root alone, over these tables.
-fn root_of<W: Fn(&Tables<TupleIndex>, MarkJobs) -> MarkJobs>(
+fn root_kept<W: Fn(&Run, &Tables<TupleIndex>, MarkJobs, AheadJobs) -> (MarkJobs, AheadJobs)>(
     run: &Run,
     work: &W,
     tables: &mut Tables<TupleIndex>,
@@ -99,8 +102,8 @@ fn root_of<W: Fn(&Tables<TupleIndex>, MarkJobs) -> MarkJobs>(
     })
 }
 
-/// Opens the root's pair, marks the root, and reads its novelty: a phase of one job.
-fn mark_root<W: Fn(&Tables<TupleIndex>, MarkJobs) -> MarkJobs>(
+/// Opens the root's pair, marks the root, and reads its novelty: a phase of one job, since nothing waits yet.
+fn mark_root<W: Fn(&Run, &Tables<TupleIndex>, MarkJobs, AheadJobs) -> (MarkJobs, AheadJobs)>(
     run: &Run,
     work: &W,
     tables: &mut Tables<TupleIndex>,
@@ -127,6 +130,7 @@ fn mark_root<W: Fn(&Tables<TupleIndex>, MarkJobs) -> MarkJobs>(
     open(tables, root.pair())?;
     let mut births = Vec::new(run.alloc);
     births.push(root)?;
-    let births = mark_all(run, work, tables, Births::of_vec(births))?;
+    let none = AheadJobs::of_vec(Vec::new(run.alloc));
+    let (births, _) = mark_all(run, work, tables, Births::of_vec(births), none)?;
     Ok(tables.novelty(&births.as_slice()[0]))
 }

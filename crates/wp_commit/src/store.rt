@@ -7,6 +7,7 @@ use crate::run::Run;
 use crate::searched::{Searched, counts_of, node_at};
 use crate::telling::told_of;
 use std::alloc::{AllocError, Global};
+use wp_ahead::{AheadJobs, Broods, broods_go_on_fitting};
 use wp_count::counters_are_carried;
 use wp_novel::{MarkJobs, Tables};
 use wp_plain::{BestFirst, Counts, children_are_numbered, first_is_least, nodes_are_numbered};
@@ -14,16 +15,18 @@ use wp_task::Atoms;
 use wp_tuples::TupleIndex;
 use wp_watch::Event;
 
-/// What a run needs throughout, what works the jobs of a phase, and what the search keeps.
+/// What a run needs throughout, what works the jobs of a phase, what the search keeps, and the broods that were made ahead.
 #[derive(Drop)]
 pub(crate) struct Store<'a, W> {
     pub run: Run<'a>,
     pub work: W,
     pub searched: Searched,
     pub tables: Tables<TupleIndex>,
+    pub broods: Broods,
 }
 
-impl<'a, W: Fn(&Tables<TupleIndex>, MarkJobs) -> MarkJobs> BestFirst for Store<'a, W> {
+impl<'a, W: Fn(&Run, &Tables<TupleIndex>, MarkJobs, AheadJobs) -> (MarkJobs, AheadJobs)> BestFirst
+    for Store<'a, W> {
     ghost use Rattle.wp_commit.specs.Searched.{HoldsAt, StandsAt, IsTakenAt, IsRunOf};
     ghost use Rattle.wp_tuples.specs.Placing.{all_placed};
     ghost use Rattle.wp_novel.specs.NoveltyTables.{placed};
@@ -31,14 +34,14 @@ impl<'a, W: Fn(&Tables<TupleIndex>, MarkJobs) -> MarkJobs> BestFirst for Store<'
 
     type Expansion = Expansion;
 
-    ghost stands = { λ s asked m. IsRunOf W.Fn s.work s.run asked (all_placed s.tables.index).len × StandsAt s.run.task s.run.settings s.searched (placed all_placed s.tables) m };
+    ghost stands = { λ s asked m. IsRunOf W.Fn s.work s.run asked (all_placed s.tables.index).len s.searched.nodes s.broods × StandsAt s.run.task s.run.settings s.searched (placed all_placed s.tables) m };
 
-    ghost holds = { λ s asked m. IsRunOf W.Fn s.work s.run asked (all_placed s.tables.index).len × HoldsAt s.run.task s.run.settings s.searched (placed all_placed s.tables) m };
+    ghost holds = { λ s asked m. IsRunOf W.Fn s.work s.run asked (all_placed s.tables.index).len s.searched.nodes s.broods × HoldsAt s.run.task s.run.settings s.searched (placed all_placed s.tables) m };
 
-    ghost has_taken = { λ s asked m node number. IsRunOf W.Fn s.work s.run asked (all_placed s.tables.index).len
+    ghost has_taken = { λ s asked m node number. IsRunOf W.Fn s.work s.run asked (all_placed s.tables.index).len s.searched.nodes s.broods
         × IsTakenAt s.run.task s.run.settings s.searched (placed all_placed s.tables) m node number };
 
-    ghost has_evaluated = { λ s asked m node number x. IsRunOf W.Fn s.work s.run asked (all_placed s.tables.index).len
+    ghost has_evaluated = { λ s asked m node number x. IsRunOf W.Fn s.work s.run asked (all_placed s.tables.index).len s.searched.nodes s.broods
         × IsTakenAt s.run.task s.run.settings s.searched (placed all_placed s.tables) m node number
         × IsExpansionOf s.run.task s.searched (placed all_placed s.tables) number x };
 
@@ -80,7 +83,13 @@ impl<'a, W: Fn(&Tables<TupleIndex>, MarkJobs) -> MarkJobs> BestFirst for Store<'
         counters_are_carried();
         children_are_numbered();
         nodes_are_numbered();
-        let expansion = expansion_of(&mut self.run, &self.searched, &self.tables, number)?;
+        let expansion = expansion_of(
+            &mut self.run,
+            &self.searched,
+            &self.tables,
+            &mut self.broods,
+            number,
+        )?;
         let needed = self.tables.pairs() + expansion.pairs.len() as u64;
         Ok((needed, expansion))
     }
@@ -95,18 +104,22 @@ impl<'a, W: Fn(&Tables<TupleIndex>, MarkJobs) -> MarkJobs> BestFirst for Store<'
         counters_are_carried();
         children_are_numbered();
         nodes_are_numbered();
+        // By this law broods are those of their nodes where nodes are added.
+        broods_go_on_fitting();
         let node = node_at(&self.run, &self.searched, &self.tables, number);
-        let numbered = enter(
+        let (numbered, aheads) = enter(
             &self.run,
             &self.work,
             &self.searched,
             &mut self.tables,
+            &mut self.broods,
             number,
             expansion,
         )?;
         let told = told_of(&self.run, node, &numbered, wanted)?;
         let track = node.mark.track;
         keep_expansion(&mut self.searched, run.settings(), number, track, numbered)?;
+        self.broods.keep(aheads)?;
         Ok(told)
     }
 }

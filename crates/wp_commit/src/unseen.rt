@@ -9,59 +9,42 @@ ghost use Rattle.wp_commit.specs.Expansions.{states_of, successors_by};
 use indexmap::IndexSet;
 use std::alloc::{AllocError, Global};
 use std::hash::{Hash, Hasher};
-use std::marker::Model;
 use wp_nodes::Nodes;
 use wp_task::{Atoms, State, Task};
 
-/// An action and the state that it leads to, which is found by that state.
+/// A state that is reached, and what belongs to it: an action that leads there, or what the state was evaluated to. It is found by its
+/// state.
 #[derive(Drop)]
-pub(crate) struct Reached {
-    act: u32,
-    state: State,
+pub(crate) struct Reached<T> {
+    pub state: State,
+    pub rest: T,
 }
 
-impl Model for Reached {
-    ghost use Rattle.wp_plain.specs.Nodes.{Successor};
-
-    ghost Value = { Successor };
-
-    ghost view = { λ r. record { act = r.act; state = r.state } };
-}
-
-impl Reached {
-    pub(crate) fn into_parts(self) -> (u32, State)
-        ensures { result ≡ (self.act, self.state) }
-    {
-        let Reached { act, state } = self;
-        (act, state)
-    }
-}
-
-impl PartialEq for Reached {
+impl<T> PartialEq for Reached<T> {
     ghost use Rattle.std.specs.Bool.{beq};
     ghost use Rattle.std.specs.Cmp.{bool_eq_equiv, partial_equiv_from_equiv};
     ghost use Rattle.std.specs.Cmp.Lexicographic.{pointwise};
     ghost use Rattle.std.proofs.lemmas.Cmp.{lists_equiv, on_equiv};
-    ghost use Rattle.wp_plain.specs.Nodes.{Successor};
+    ghost use Rattle.wp_commit.specs.declared.unseen.Reached.{Reached};
 
     ghost eq = { λ a b. pointwise beq a.state b.state };
 
-    ghost laws = { partial_equiv_from_equiv (on_equiv (λ (x : Successor). x.state) (lists_equiv bool_eq_equiv)) };
+    ghost laws = { partial_equiv_from_equiv (on_equiv (λ (x : Reached T). x.state) (lists_equiv bool_eq_equiv)) };
 
-    fn eq(&self, other: &Reached) -> bool {
+    fn eq(&self, other: &Reached<T>) -> bool {
         self.state == other.state
     }
 }
 
-impl Eq for Reached {
+impl<T> Eq for Reached<T> {
     ghost use Rattle.std.specs.Cmp.{bool_eq_equiv};
     ghost use Rattle.std.proofs.lemmas.Cmp.{lists_equiv, on_equiv};
-    ghost use Rattle.wp_plain.specs.Nodes.{Successor};
+    ghost use Rattle.wp_commit.specs.declared.unseen.Reached.{Reached};
 
-    ghost laws = { on_equiv (λ (x : Successor). x.state) (lists_equiv bool_eq_equiv) };
+    ghost laws = { on_equiv (λ (x : Reached T). x.state) (lists_equiv bool_eq_equiv) };
 }
 
-impl Hash for Reached {
+impl<T> Hash for Reached<T> {
     ghost use Rattle.std.proofs.Common.{ap};
     ghost use Rattle.std.specs.Prelude.{refl};
     ghost use Rattle.std.specs.Bool.{beq};
@@ -86,7 +69,7 @@ pub(crate) fn unseen(
     nodes: &Nodes,
     state: &State,
     acts: &Atoms,
-) -> Result<Vec<Reached>, AllocError>
+) -> Result<Vec<Reached<u32>>, AllocError>
     requires size { length state.now ≡ task.now.atoms }
     requires numbers { All (λ a. a < length task.now.acts) acts.now }
     ensures { IfOk result (λ reached. reached.items ≡ unseen (λ x. x.state) (states_of nodes.now.kept) (successors_by task.now.acts state.now acts.now)) }
@@ -98,20 +81,20 @@ pub(crate) fn unseen(
             nodes,
             &mut reached,
             Reached {
-                act: *act,
                 state: next,
+                rest: *act,
             },
         )?;
     }
     reached.into_iter().collect(alloc)
 }
 
-/// Puts a successor to those before it, unless its state was seen.
+/// Puts a state to those before it, unless it was seen.
 // The look at the kept nodes goes first: most repeats are found there.
-fn insert_unseen(
+pub(crate) fn insert_unseen<T: Drop>(
     nodes: &Nodes,
-    reached: &mut IndexSet<Reached>,
-    next: Reached,
+    reached: &mut IndexSet<Reached<T>>,
+    next: Reached<T>,
 ) -> Result<(), AllocError>
     ensures { OnOk result (reached.new.keys ≡ (if list_any (pointwise beq next.state) (states_of nodes.now.kept ++ map (λ x. x.state) reached.old.keys) then reached.old.keys else reached.old.keys ++ next ∷ [])) }
 {

@@ -15,5 +15,6 @@ pub mod OrderLemmas
 pub mod NumberLemmas
 pub mod ActLemmas
 pub mod StepLemmas
+pub mod ListLemmas
 pub mod JoinLemmas
 pub mod TakingLemmas

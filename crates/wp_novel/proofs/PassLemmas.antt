@@ -4,7 +4,7 @@ use Rattle.std.specs.List.{All}
 use Rattle.std.proofs.lemmas.Grind.{flat_map-append}
 use Rattle.std.proofs.lemmas.List.Elements.{All-head, All-tail}
 use Rattle.wp_tuples.specs.Placing.{Placing}
-use Rattle.wp_arrive.specs.declared.view.Mark.{Mark}
+use Rattle.wp_arrive.specs.declared.view.Arrival.{Arrival}
 use Rattle.wp_arrive.specs.Rule.{latest}
 use Rattle.wp_arrive.specs.Seen.{PassView, seen}
 use Rattle.wp_novel.specs.declared.birth.Pair.{Pair}
@@ -86,7 +86,7 @@ passed_at-one p pair true is = ap (λ (b : Bool). cond b (p.pass.marks ++ []) []
 passed_at-one p pair false is = ap (λ (b : Bool). cond b (p.pass.marks ++ []) []) is
 
 -- ---- marks
-pub latest-push : (marks : List Mark) (m : Mark) → latest (marks ++ m ∷ []) ≡ m.number
+pub latest-push : (marks : List Arrival) (m : Arrival) → latest (marks ++ m ∷ []) ≡ m.number
 latest-push [] m = refl
 latest-push (x ∷ []) m = refl
 latest-push (x ∷ y ∷ marks) m = latest-push (y ∷ marks) m

@@ -2,7 +2,7 @@
 use Rattle.std.proofs.Common.{◌≡◌, ℕ, ◌-◌, ◌^◌, true, false, List, [], ◌∷◌, Some, None, refl}
 use Rattle.wp_task.specs.Novelty.{Generated, novelty_of}
 use Rattle.wp_tuples.specs.Placing.{Placing, all_placed}
-use Rattle.wp_arrive.specs.declared.view.Mark.{Mark}
+use Rattle.wp_arrive.specs.declared.view.Arrival.{Arrival}
 use Rattle.wp_arrive.specs.FirstArrival.{mark}
 use Rattle.wp_novel.specs.Births.{BirthView}
 use Rattle.wp_novel.specs.MarkedTuples.{new_atoms, old_atoms}
@@ -67,7 +67,7 @@ none_has_a_new_atom = refl
 other_counters_are_not_marked : marks_for places far (with_new ∷ []) ≡ []
 other_counters_are_not_marked = refl
 
-abbrev all_marks : List Mark
+abbrev all_marks : List Arrival
 all_marks = marks_for places near (first_birth ∷ with_new ∷ without_new ∷ [])
 
 the_new_atom_is_late : late_size places all_marks 1 (old_atoms with_new) (new_atoms with_new) ≡ 1

@@ -6,7 +6,7 @@ use Rattle.std.proofs.lemmas.Bool.{cases_Bool, both_ways, eqb-true, eq-eqb, and_
 use Rattle.wp_task.specs.Set.{has}
 use Rattle.wp_task.proofs.Members.{In, list_any-from, list_any-at}
 use Rattle.wp_tuples.specs.Placing.{Placing, HasPlace, place_in, AreApart}
-use Rattle.wp_arrive.specs.declared.view.Mark.{Mark}
+use Rattle.wp_arrive.specs.declared.view.Arrival.{Arrival}
 use Rattle.wp_arrive.specs.FirstArrival.{first}
 use Rattle.wp_novel.specs.Births.{BirthView, is_new}
 use Rattle.wp_novel.specs.MarkedTuples.{pairs_after, new_atoms, old_atoms, AreCounted}
@@ -23,7 +23,7 @@ early_is m n h = ltb-true m n (not_false (nat_lt m n) h) where
   not_false true h = refl
   not_false false h = absurd (cc)
 
-module _ (places : Placing) (apart : AreApart places) (b : BirthView) (marks : List Mark) (size : length b.node.state ≡ places.atoms)
+module _ (places : Placing) (apart : AreApart places) (b : BirthView) (marks : List Arrival) (size : length b.node.state ≡ places.atoms)
     (counted : AreCounted places b.node.state) (earlier : IsEarlierAtOld places marks b) where
   abbrev state : List Bool
   state = b.node.state
@@ -114,7 +114,7 @@ module _ (places : Placing) (apart : AreApart places) (b : BirthView) (marks : L
     by false false two one_is wide_is two_is = size_none one_is (λ h. absurd (both_ways (places.width == 2) wide_is (eq-eqb places.width 2 h)))
 
 -- where there are no places no tuple is late
-pub size_of_none : (places : Placing) (state : List Bool) (number : ℕ) (marks : List Mark) → AreApart places → places.len ≡ 0 →
+pub size_of_none : (places : Placing) (state : List Bool) (number : ℕ) (marks : List Arrival) → AreApart places → places.len ≡ 0 →
     IsLeastSize places state number marks (places.width + 1)
 size_of_none places state number marks apart none = record {
   range = (omega arith, omega arith);

@@ -13,7 +13,7 @@ use Rattle.std.proofs.Math.Nat.{suc-mul}
 use Rattle.wp_task.specs.Set.{has}
 use Rattle.wp_task.specs.Novelty.{Generated}
 use Rattle.wp_tuples.specs.Placing.{Placing, place_in}
-use Rattle.wp_arrive.specs.declared.view.Mark.{Mark}
+use Rattle.wp_arrive.specs.declared.view.Arrival.{Arrival}
 use Rattle.wp_arrive.specs.FirstArrival.{first}
 use Rattle.wp_arrive.specs.Seen.{PassView}
 use Rattle.wp_novel.specs.declared.birth.Pair.{Pair}
@@ -81,7 +81,7 @@ stands_more t pair home births unmarked closed stands = record {
       (λ (was : home_of t.homes q ≡ Some found). stands.firsts q found was tuple h)
       (λ (new : (is_pair q pair ≡ true) × (home ≡ found)).
       let none : found.marks ≡ [] = ap (λ (x : PassView). x.marks) (sym new.1) ∙ unmarked in
-      ap (λ (l : List Mark). first l (place_in t.index tuple)) none
+      ap (λ (l : List Arrival). first l (place_in t.index tuple)) none
       ∙ sym (none_first (pairs_of t.homes) (counters_of q) tuple births (ap (λ p. is_among (pairs_of t.homes) (counters_of p)) (same_pair q pair new.0) ∙ closed) stands.pairs))
       (opened_cases t.homes pair home q found e);
 }

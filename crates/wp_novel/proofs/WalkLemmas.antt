@@ -7,7 +7,7 @@ use Rattle.std.proofs.lemmas.List.Elements.{All-head}
 use Rattle.std.proofs.lemmas.List.Folds.{list_any-append}
 use Rattle.wp_task.proofs.Members.{In, In-at, In-map, In-append_left, In-append_right, list_any-from, list_any-at}
 use Rattle.wp_tuples.specs.Placing.{Placing, place_in}
-use Rattle.wp_arrive.specs.declared.view.Mark.{Mark}
+use Rattle.wp_arrive.specs.declared.view.Arrival.{Arrival}
 use Rattle.wp_arrive.specs.FirstArrival.{mark, first}
 use Rattle.wp_novel.specs.MarkedTuples.{pair_of, pairs_after, tuples_with_new}
 use Rattle.wp_novel.specs.Marks.{marks_at, is_late}
@@ -78,14 +78,14 @@ pairs_more old new k within =
 
 -- ---- marks
 module _ (places : Placing) (number : ℕ) where
-  abbrev at : List (List ℕ) → List Mark
+  abbrev at : List (List ℕ) → List Arrival
   at tuples = marks_at places number tuples
 
   marks-append : (xs ys : List (List ℕ)) → at (xs ++ ys) ≡ at xs ++ at ys
   marks-append xs ys = map-append (λ (u : List ℕ). mark (place_in places u) number) xs ys
 
   -- a mark more in a row of tuples
-  pub marks_more : (f : ℕ → List ℕ) (marks : List Mark) (atoms : List ℕ) (i place : ℕ) → i < length atoms → place ≡ place_in places (f (get_or atoms i 0)) →
+  pub marks_more : (f : ℕ → List ℕ) (marks : List Arrival) (atoms : List ℕ) (i place : ℕ) → i < length atoms → place ≡ place_in places (f (get_or atoms i 0)) →
       (marks ++ at (map f (take i atoms))) ++ mark place number ∷ [] ≡ marks ++ at (map f (take (i + 1) atoms))
   marks_more f marks atoms i place within is =
       append_assoc marks (at (map f (take i atoms))) (mark place number ∷ [])
@@ -95,7 +95,7 @@ module _ (places : Placing) (number : ℕ) where
       ∙ ap (λ (l : List (List ℕ)). at l) (sym (map_push f (take i atoms) (get_or atoms i 0)) ∙ sym (ap (λ l. map f l) (take_more atoms i 0 within)))))
 
   -- the marks of the pairs of one new atom more
-  pub marks_of_atom : (marks : List Mark) (old new : List ℕ) (k : ℕ) → k < length new →
+  pub marks_of_atom : (marks : List Arrival) (old new : List ℕ) (k : ℕ) → k < length new →
       ((marks ++ at (pairs_after old (take k new))) ++ at (map (with_atom (get_or new k 0)) old)) ++ at (map (with_atom (get_or new k 0)) (take k new))
       ≡ marks ++ at (pairs_after old (take (k + 1) new))
   marks_of_atom marks old new k within =
@@ -108,13 +108,13 @@ module _ (places : Placing) (number : ℕ) where
       ∙ ap (λ l. marks ++ l) (sym (marks-append before (a ++ b)) ∙ ap (λ (l : List (List ℕ)). at l) (sym (pairs_more old new k within)))))
 
   -- the first new atom, the later ones, and the pairs if any
-  pub marks_of_singles : (marks : List Mark) (new : List ℕ) (place : ℕ) → 0 < length new → place ≡ place_in places (get_or new 0 0 ∷ []) →
+  pub marks_of_singles : (marks : List Arrival) (new : List ℕ) (place : ℕ) → 0 < length new → place ≡ place_in places (get_or new 0 0 ∷ []) →
       (marks ++ mark place number ∷ []) ++ at (map single (drop 1 new)) ≡ marks ++ at (map single new)
   marks_of_singles marks [] place some is = absurd (omega arith)
   marks_of_singles marks (x ∷ new) place some is =
       append_assoc marks (mark place number ∷ []) (at (map single new)) ∙ ap (λ (p : ℕ). marks ++ mark p number ∷ at (map single new)) is
 
-  pub marks_of_all : (width : ℕ) (marks : List Mark) (old new : List ℕ) (b : Bool) → (width == 2) ≡ b →
+  pub marks_of_all : (width : ℕ) (marks : List Arrival) (old new : List ℕ) (b : Bool) → (width == 2) ≡ b →
       (marks ++ at (map single new)) ++ at (cond b (pairs_after old new) []) ≡ marks ++ at (tuples_with_new width old new)
   marks_of_all width marks old new b is =
       append_assoc marks (at (map single new)) (at (cond b (pairs_after old new) []))
@@ -134,11 +134,11 @@ no_tuples width old [] none = by (width == 2) where
 no_tuples width old (x ∷ new) none = absurd (let wrong : length (x ∷ new) ≡ 0 = eqb-true (length (x ∷ new)) 0 none in omega arith)
 
 -- ---- looks
-pub late_from : (places : Placing) (marks : List Mark) (number found : ℕ) (tuple : List ℕ) → found ≡ first marks (place_in places tuple) → number ≤ found →
+pub late_from : (places : Placing) (marks : List Arrival) (number found : ℕ) (tuple : List ℕ) → found ≡ first marks (place_in places tuple) → number ≤ found →
     is_late places marks number tuple ≡ true
 late_from places marks number found tuple is late = ap not (le-ltb (first marks (place_in places tuple)) number (omega arith))
 
-pub early_from : (places : Placing) (marks : List Mark) (number found : ℕ) (tuple : List ℕ) → found ≡ first marks (place_in places tuple) → found < number →
+pub early_from : (places : Placing) (marks : List Arrival) (number found : ℕ) (tuple : List ℕ) → found ≡ first marks (place_in places tuple) → found < number →
     is_late places marks number tuple ≡ false
 early_from places marks number found tuple is early = ap not (lt-ltb (first marks (place_in places tuple)) number (omega arith))
 

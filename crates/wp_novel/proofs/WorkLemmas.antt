@@ -10,7 +10,7 @@ use Rattle.std.proofs.lemmas.List.Folds.{flat_map-map}
 use Rattle.std.proofs.lemmas.Map.Entries.{length-keys_of}
 use Rattle.wp_task.specs.Novelty.{Generated}
 use Rattle.wp_tuples.specs.Placing.{Placing, HasPlace, place_in}
-use Rattle.wp_arrive.specs.declared.view.Mark.{Mark}
+use Rattle.wp_arrive.specs.declared.view.Arrival.{Arrival}
 use Rattle.wp_arrive.specs.FirstArrival.{first}
 use Rattle.wp_arrive.specs.Seen.{PassView}
 use Rattle.wp_arrive.proofs.Firsts.{first_append}
@@ -135,7 +135,7 @@ module _ (t : NoveltyTables) (homes : Homes) (births : List BirthView) (shares :
   marked_still : (bound : ℕ) (b : BirthView) → AreMarkedBelow t bound b → AreMarkedBelow dealt bound b
   marked_still bound b marked pair home e same tuple place all old =
       let before : Was (Lends (passes_of jobs)) t.homes pair home = was (Lends (passes_of jobs)) t.homes homes given.homes pair home e in
-      subst (λ (l : List Mark). first l (place_in t.index tuple) < bound) (sym before.2.marks) (marked pair before.0 before.1 same tuple place all old)
+      subst (λ (l : List Arrival). first l (place_in t.index tuple) < bound) (sym before.2.marks) (marked pair before.0 before.1 same tuple place all old)
 
   ready_still : (b : BirthView) → IsReady t b → IsReady dealt b
   ready_still b h = record {
@@ -191,7 +191,7 @@ module _ (t : NoveltyTables) (homes : Homes) (births : List BirthView) (shares :
     last = stands.last;
     firsts = λ pair home e tuple h.
         let old : Was (Lends (passes_of jobs)) t.homes pair home = was (Lends (passes_of jobs)) t.homes homes given.homes pair home e in
-        ap (λ (l : List Mark). first l (place_in t.index tuple)) old.2.marks ∙ stands.firsts pair old.0 old.1 tuple h;
+        ap (λ (l : List Arrival). first l (place_in t.index tuple)) old.2.marks ∙ stands.firsts pair old.0 old.1 tuple h;
   }
 
 -- ---- worked
@@ -234,7 +234,7 @@ worked_is t j is = record {
       table = h.table;
       words = h.words;
       part = h.part;
-      marks = ap (λ (l : List Mark). l ++ marks_for t.index (counters_of p.pair) j.births) h.marks;
+      marks = ap (λ (l : List Arrival). l ++ marks_for t.index (counters_of p.pair) j.births) h.marks;
     }
 
 pub work_is_out : WorkIsOut
@@ -289,7 +289,7 @@ one_passed t births pair (p ∷ passes) are one there =
           cond b (p.pass.marks ++ passed_at pair passes) (passed_at pair passes) ≡ marks_for t.index (counters_of pair) births
       by true here few rest =
           let none : parts_at pair passes ≡ 0 = omega (arith, is.part, few) in
-          ap (λ (l : List Mark). p.pass.marks ++ l) (none_passed t births pair passes (All-tail (IsPassOf t true births) p passes are) none)
+          ap (λ (l : List Arrival). p.pass.marks ++ l) (none_passed t births pair passes (All-tail (IsPassOf t true births) p passes are) none)
           ∙ (append-nil p.pass.marks ∙ (is.marks ∙ ap (λ (q : Pair). marks_for t.index (counters_of q) births) (sym (same_pair pair p.pair here))))
       by false here few rest = rest few (sym (ap (λ b. b || has_pass passes (counters_of pair)) (is_pair-swapped p.pair pair ∙ here)) ∙ there)
 
@@ -403,7 +403,7 @@ module _ (t : NoveltyTables) (homes : Homes) (jobs : List JobView) (filled : Are
         let below : at < t.index.len = filled.apart.below tuple place in
         let word : first old.0.marks at ≡ first_number before (counters_of pair) tuple = stands.firsts pair old.0 old.1 tuple place in
         let passed : first (passed_at pair (passes_of jobs)) at ≡ first (marks_for t.index (counters_of pair) births) at =
-        ap (λ (l : List Mark). first l at) (passed_is t pair jobs (omega arith) out.jobs_are) in
+        ap (λ (l : List Arrival). first l at) (passed_is t pair jobs (omega arith) out.jobs_are) in
         let new : min (first old.0.marks at) (first (marks_for t.index (counters_of pair) births) at) ≡ min (first old.0.marks at) (first_number (nodes_of births) (counters_of pair) tuple) =
         first_of_births t.index filled.apart births (counters_of pair) tuple (first old.0.marks at) place can (no_earlier before stands pair old.0 old.1 tuple place) in
         ap (λ (x : PassView). first x.marks at) old.2

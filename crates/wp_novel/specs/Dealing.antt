@@ -4,7 +4,7 @@ use Rattle.std.specs.List.{flat_map, list_all, list_any}
 use Rattle.std.specs.Vec.{vec_capacity}
 use Rattle.wp_task.specs.Set.{has}
 use Rattle.wp_tuples.specs.Placing.{Placing, HasPlace, place_in}
-use Rattle.wp_arrive.specs.declared.view.Mark.{Mark}
+use Rattle.wp_arrive.specs.declared.view.Arrival.{Arrival}
 use Rattle.wp_arrive.specs.FirstArrival.{first}
 use Rattle.wp_arrive.specs.Seen.{PassView, seen}
 use Rattle.wp_novel.specs.declared.birth.Pair.{Pair}
@@ -83,6 +83,6 @@ pub record CanBeMarked (places : Placing) (b : BirthView) : Type 0 where
 
 -- ---- looks
 -- the tuples of the birth that have no new atom were marked by numbers below its own
-abbrev pub IsEarlierAtOld : Placing → List Mark → BirthView → Type 0
+abbrev pub IsEarlierAtOld : Placing → List Arrival → BirthView → Type 0
 IsEarlierAtOld places marks b = (tuple : List ℕ) → HasPlace places tuple → list_all (has b.node.state) tuple ≡ true →
     list_any (is_new b.fresh) tuple ≡ false → first marks (place_in places tuple) < b.node.number

@@ -3,7 +3,7 @@ use Rattle.std.specs.Prelude.{◌≡◌, ℕ, ◌+◌, ◌^◌, ◌<◌, ◌≤�
 use Rattle.std.specs.List.{flat_map, list_any}
 use Rattle.std.specs.Map.{keys_of}
 use Rattle.wp_tuples.specs.Placing.{Placing}
-use Rattle.wp_arrive.specs.declared.view.Mark.{Mark}
+use Rattle.wp_arrive.specs.declared.view.Arrival.{Arrival}
 use Rattle.wp_arrive.specs.Seen.{PassView, seen}
 use Rattle.wp_novel.specs.declared.birth.Pair.{Pair}
 use Rattle.wp_novel.specs.declared.job.JobPass.{JobPass}
@@ -39,7 +39,7 @@ abbrev pub parts_at : Pair → List JobPass → ℕ
 parts_at pair [] = 0
 parts_at pair (p ∷ passes) = if is_pair pair p.pair then p.pass.parts + parts_at pair passes else parts_at pair passes
 
-abbrev pub passed_at : Pair → List JobPass → List Mark
+abbrev pub passed_at : Pair → List JobPass → List Arrival
 passed_at pair [] = []
 passed_at pair (p ∷ passes) = if is_pair pair p.pair then p.pass.marks ++ passed_at pair passes else passed_at pair passes
 

@@ -12,7 +12,7 @@ use crate::first::least_size;
 use crate::marks::mark_births;
 use std::alloc::{AllocError, Global};
 use std::marker::Model;
-use wp_arrive::{Arrivals, Pass};
+use wp_arrive::{Arrivals, Pass, Unmarked};
 use wp_tuples::Places;
 
 /// Words, and their pass.
@@ -62,17 +62,17 @@ impl Model for Home {
 }
 
 impl Home {
-    /// So many words, at which nothing was marked.
-    pub(crate) fn new(alloc: Global, words: u64) -> Result<Home, AllocError>
-        requires { words ≤ 2 ^ 31 }
-        ensures words { IfOk result (λ home. home.table.words ≡ words) }
+    /// As many words as are lent, at which nothing was marked.
+    pub(crate) fn new(alloc: Global, unmarked: &Unmarked) -> Result<Home, AllocError>
+        requires { unmarked.now ≤ 2 ^ 31 }
+        ensures words { IfOk result (λ home. home.table.words ≡ unmarked.now) }
         ensures unmarked { IfOk result (λ home. home.marks ≡ []) }
         ensures whole { IfOk result (λ home. home.parts ≡ 2 ^ 32) }
     {
-        if words == 0 {
+        if unmarked.len() == 0 {
             return Ok(Home { shared: None });
         }
-        let (arrivals, pass) = Arrivals::new(alloc, words)?;
+        let (arrivals, pass) = Arrivals::of_unmarked(alloc, unmarked)?;
         Ok(Home {
             shared: Some(Shared { arrivals, pass }),
         })

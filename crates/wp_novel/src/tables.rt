@@ -19,6 +19,7 @@ use indexmap::IndexMap;
 use std::alloc::{AllocError, Global};
 use std::marker::Model;
 use std::mem::replace;
+use wp_arrive::Unmarked;
 use wp_edge::{Gate, JobName};
 use wp_tuples::Places;
 
@@ -28,6 +29,8 @@ pub struct Tables<P: Places> {
     alloc: Global,
     index: P,
     limit: u64,
+    // What the words of each pair begin as: made with the first pair, and copied into each.
+    unmarked: Unmarked,
     homes: IndexMap<Pair, Home>,
     last: Option<u64>,
     out: Vec<u64>,
@@ -62,6 +65,7 @@ impl<P: Places> Tables<P> {
             alloc,
             index,
             limit,
+            unmarked: Unmarked::new(alloc),
             homes: IndexMap::new(alloc),
             last: None,
             out: Vec::new(alloc),
@@ -109,7 +113,8 @@ impl<P: Places> Tables<P> {
         if need > self.limit {
             return Err(PairError::Words { need });
         }
-        let home = Home::new(self.alloc, tuples)?;
+        self.unmarked.fit(self.alloc, tuples)?;
+        let home = Home::new(self.alloc, &self.unmarked)?;
         add(&mut self.homes, pair, home)?;
         Ok(())
     }

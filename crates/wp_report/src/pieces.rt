@@ -11,7 +11,11 @@ pub fn put_number(out: &mut Vec<u8>, number: u64) -> Result<(), AllocError>
     ensures { OnOk result (out.new.items ≡ out.old.items ++ decimal number) }
 {
     let mut digits = Buffer::new();
-    out.extend_from_slice(digits.format(number).as_bytes())
+    // Numbers are short: pushes cost less than a copy.
+    for digit in digits.format(number).as_bytes() {
+        out.push(*digit)?;
+    }
+    Ok(())
 }
 
 pub fn put_two(out: &mut Vec<u8>, first: &[u8], second: &[u8]) -> Result<(), AllocError>

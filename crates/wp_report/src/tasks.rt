@@ -4,7 +4,7 @@ ghost use Rattle.std.specs.Prelude.{◌≡◌, ◌≢◌, ◌<◌, ◌++◌, ◌
 ghost use Rattle.wp_task.specs.Set.{atoms_in, has};
 ghost use Rattle.wp_report.specs.Tasks.{IsNamed, act_line, act_lines, atom_line, atom_lines, count_line, ground_error_text, ground_text, name_at, numbers_line, numbers_text};
 
-use crate::pieces::{put_counted, put_two};
+use crate::pieces::{put_counted, put_number, put_two};
 use std::alloc::{AllocError, Global};
 use wp_edge::{Text, Texts};
 use wp_ground::{GroundError, Grounded};
@@ -102,7 +102,8 @@ fn put_spaced(out: &mut Vec<u8>, numbers: &[u32]) -> Result<(), AllocError>
     ensures { OnOk result (out.new.items ≡ out.old.items ++ numbers_text numbers.now) }
 {
     for number in numbers {
-        put_counted(out, b" ", u64::from(*number))?;
+        out.push(b' ')?;
+        put_number(out, u64::from(*number))?;
     }
     Ok(())
 }
@@ -139,7 +140,8 @@ fn put_member(out: &mut Vec<u8>, set: &State, p: u32) -> Result<(), AllocError>
     ensures { OnOk result (out.new.items ≡ out.old.items ++ numbers_text (cond (has set.now p) (p ∷ []) [])) }
 {
     if set.has(p) {
-        put_counted(out, b" ", u64::from(p))?;
+        out.push(b' ')?;
+        put_number(out, u64::from(p))?;
     }
     Ok(())
 }

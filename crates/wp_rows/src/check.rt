@@ -1,10 +1,13 @@
-//! `check` over a chain of two actions on a shelf that fails.
+//! `check` over a chain of two actions, where a fetch fails, a put, or both.
 
 ghost use Rattle.std.specs.Prelude.{◌≤◌};
 
 use crate::plan::answered;
+use crate::untold::{UntoldShelf, UntoldSink};
 use std::alloc::{AllocError, Global};
+use std::process::Abort;
 use std::test::Fail;
+use std::thread::Threads;
 use wp_edge::{File, Files, MemShelf, MemSink, Numbers, Text};
 
 const DOMAIN: &str = "(define (domain chain) (:predicates (a) (b) (c))
@@ -46,26 +49,81 @@ pub(crate) fn shelf_of(
     Ok(MemShelf::new(Files::of_vec(files), fails))
 }
 
-/// An output of 200 bytes that takes `most` a call; the calls of these numbers fail.
+/// An output of 400 bytes that takes `most` a call; the calls of these numbers fail.
 pub(crate) fn sink(alloc: Global, most: u64, fails: &[u64]) -> Result<MemSink, AllocError>
     requires { 1 ≤ most }
 {
     MemSink::new(
         alloc,
-        200,
+        400,
         most,
         Numbers::of_vec(Vec::from_slice(alloc, fails)?),
     )
 }
 
-#[test]
-fn a_fetch_that_fails_is_named(rt: HostRuntime) -> Result<(), Fail> {
-    let alloc = rt.alloc();
-    let mut shelf = shelf(alloc, "(s1)(s2)", &[2])?;
-    let mut sink = sink(alloc, 100, &[])?;
+/// A fetch and a put of the check of a valid plan fail, of the numbers that are given, from 1; the output takes three bytes a put.
+fn check_plan<R: Abort + Threads + Sync>(
+    rt: &R,
+    alloc: Global,
+    (fetch, put): (u64, u64),
+    status: u8,
+    held: &str,
+) -> Result<(), Fail> {
     let line = ["check", "d", "p", "plan"];
-    let status = answered(&rt, alloc, &line, &mut shelf, &mut sink)?;
-    assert_eq!(rt; status.code(), 20);
-    assert_eq!(rt; sink.held(), b"; read fault: problem\n".as_slice());
+    let mut shelf = shelf(alloc, "(s1)(s2)", &[fetch])?;
+    let mut sink = sink(alloc, 3, &[put])?;
+    let answer = answered(rt, alloc, &line, &mut shelf, &mut sink, Vec::new(alloc))?;
+    assert_eq!(rt; answer.code(), status, "fetch {fetch} and put {put}");
+    assert_eq!(rt; sink.held(), held.as_bytes(), "fetch {fetch} and put {put}");
+    Ok(())
+}
+
+/// The same over a shelf and a sink that tell nothing but their counts.
+fn check_plan_untold<R: Abort + Threads + Sync>(
+    rt: &R,
+    alloc: Global,
+    (fetch, put): (u64, u64),
+    status: u8,
+    held: &str,
+) -> Result<(), Fail> {
+    let line = ["check", "d", "p", "plan"];
+    let mut shelf = UntoldShelf::new(shelf(alloc, "(s1)(s2)", &[fetch])?);
+    let mut sink = UntoldSink {
+        told: sink(alloc, 3, &[put])?,
+    };
+    let answer = answered(rt, alloc, &line, &mut shelf, &mut sink, Vec::new(alloc))?;
+    assert_eq!(rt;
+        answer.code(),
+        status,
+        "untold, fetch {fetch} and put {put}"
+    );
+    assert_eq!(rt;
+        sink.told.held(),
+        held.as_bytes(),
+        "untold, fetch {fetch} and put {put}"
+    );
+    Ok(())
+}
+
+// A fetch or put of number 0 is none.
+#[test]
+fn a_failed_fetch_is_named_and_a_failed_put_cuts_the_text(rt: HostRuntime) -> Result<(), Fail> {
+    let alloc = rt.alloc();
+    for (fails, status, held) in [
+        ((1, 0), 20, "; read fault: domain\n"),
+        ((2, 0), 20, "; read fault: problem\n"),
+        ((3, 0), 20, "; read fault: plan\n"),
+        ((0, 1), 21, ""),
+        ((0, 2), 21, "; v"),
+        ((0, 3), 21, "; vali"),
+        ((0, 4), 21, "; valid s"),
+        ((0, 5), 21, "; valid step"),
+        ((0, 6), 21, "; valid steps 2"),
+        ((0, 7), 0, "; valid steps 2\n"),
+        ((2, 2), 21, "; r"),
+    ] {
+        check_plan(&rt, alloc, fails, status, held)?;
+        check_plan_untold(&rt, alloc, fails, status, held)?;
+    }
     Ok(())
 }

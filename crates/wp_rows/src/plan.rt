@@ -1,6 +1,6 @@
 //! `plan` over a chain of two actions, and outputs that take a few bytes a call.
 
-ghost use Rattle.std.specs.Prelude.{◌≤◌};
+ghost use Rattle.std.specs.Prelude.{◌≡◌, ◌≤◌, [], All};
 
 use crate::check::{shelf, sink};
 use std::alloc::{AllocError, Global};
@@ -8,7 +8,8 @@ use std::process::Abort;
 use std::test::Fail;
 use std::thread::Threads;
 use wp_app::{Status, run_words};
-use wp_edge::{MemShelf, MemSink, OpenGate};
+use wp_edge::{OpenGate, Shelf, Sink};
+use wp_watch::Watch;
 
 const PLANNED: &str =
     "(s1)\n(s2)\n; found steps 2 expanded 2 numbered 3 kept 3 pruned 0 repeats 1 pairs 3\n";
@@ -21,14 +22,17 @@ pub(crate) fn words(alloc: Global, line: &[&str]) -> Result<Vec<String>, AllocEr
     Ok(words)
 }
 
-/// What the words of a line answer.
-pub(crate) fn answered<R: Threads + Sync>(
+/// What the words of a line answer, with these watchers.
+pub(crate) fn answered<R: Threads + Sync, S: Shelf, K: Sink>(
     rt: &R,
     alloc: Global,
     line: &[&str],
-    shelf: &mut MemShelf,
-    sink: &mut MemSink,
-) -> Result<Status, AllocError> {
+    shelf: &mut S,
+    sink: &mut K,
+    watchers: Vec<Box<dyn Watch>>,
+) -> Result<Status, AllocError>
+    requires { All (λ watch. told watch ≡ []) watchers.items }
+{
     let words = words(alloc, line)?;
     Ok(run_words(
         rt,
@@ -37,7 +41,7 @@ pub(crate) fn answered<R: Threads + Sync>(
         shelf,
         sink,
         &OpenGate,
-        Vec::new(alloc),
+        watchers,
     ))
 }
 
@@ -55,7 +59,7 @@ fn check_plan<R: Abort + Threads + Sync>(
     let line = ["plan", "d", "p", "--search", "kbfws", "--width", "1"];
     let mut shelf = shelf(alloc, "", &[])?;
     let mut sink = sink(alloc, most, fails)?;
-    let answered = answered(rt, alloc, &line, &mut shelf, &mut sink)?;
+    let answered = answered(rt, alloc, &line, &mut shelf, &mut sink, Vec::new(alloc))?;
     assert_eq!(rt; answered.code(), status);
     assert_eq!(rt; sink.held(), held.as_bytes());
     Ok(())

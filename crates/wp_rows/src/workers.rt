@@ -63,6 +63,16 @@ fn plan_the_trap<R: Abort + Threads + Sync, G: Gate>(
     Ok(())
 }
 
+/// Whether so many have come by the time that a job is no longer held.
+fn come(count: &AtomicU64, many: u64) -> bool {
+    for _turn in 0..100_000_000u64 {
+        if count.load(Ordering::SeqCst) >= many {
+            return true;
+        }
+    }
+    false
+}
+
 /// Lets the first mark job pass, and holds each one after it until a second of these has come.
 #[derive(Drop)]
 struct Meeting {
@@ -73,22 +83,10 @@ struct Meeting {
 impl Gate for Meeting {
     fn pass(&self, job: JobName) {
         if let JobName::Mark { place: _ } = job {
-            if self.came.fetch_add(1, Ordering::SeqCst) > 0 && !self.is_met() {
+            if self.came.fetch_add(1, Ordering::SeqCst) > 0 && !come(&self.came, 3) {
                 self.alone.fetch_add(1, Ordering::SeqCst);
             }
         }
-    }
-}
-
-impl Meeting {
-    /// Whether a second job came, besides the first of all, while this one was held.
-    fn is_met(&self) -> bool {
-        for _turn in 0..100_000_000u64 {
-            if self.came.load(Ordering::SeqCst) > 2 {
-                return true;
-            }
-        }
-        false
     }
 }
 
@@ -102,6 +100,63 @@ fn two_jobs_of_a_phase_run_beside_each_other(rt: HostRuntime) -> Result<(), Fail
     };
     plan_the_trap(&rt, alloc, &["--workers", "2"], &gate, Vec::new(alloc))?;
     assert!(rt; gate.came.load(Ordering::SeqCst) > 2);
+    assert_eq!(rt; gate.alone.load(Ordering::SeqCst), 0);
+    Ok(())
+}
+
+/// Lets the first three jobs pass, and holds each one after them until one of the other kind has come.
+#[derive(Drop)]
+struct Kinds {
+    came: AtomicU64,
+    marks: AtomicU64,
+    broods: AtomicU64,
+    alone: AtomicU64,
+}
+
+impl Gate for Kinds {
+    fn pass(&self, job: JobName) {
+        if self.came.fetch_add(1, Ordering::SeqCst) > 2 && !self.is_met(job) {
+            self.alone.fetch_add(1, Ordering::SeqCst);
+        }
+    }
+}
+
+impl Kinds {
+    /// Counts the job, and says whether one of the other kind came while it was held.
+    fn is_met(&self, job: JobName) -> bool {
+        match job {
+            JobName::Mark { place: _ } => {
+                self.marks.fetch_add(1, Ordering::SeqCst);
+                come(&self.broods, 1)
+            }
+            JobName::Ahead { number: _ } => {
+                self.broods.fetch_add(1, Ordering::SeqCst);
+                come(&self.marks, 1)
+            }
+        }
+    }
+}
+
+// The first three are the mark jobs of the root and of its children, beside which nothing waits. The next phase has two mark jobs and three that make
+// broods, and if the jobs of one kind went first they would be held until all turns are spent.
+#[test]
+fn jobs_of_both_kinds_run_beside_each_other(rt: HostRuntime) -> Result<(), Fail> {
+    let alloc = rt.alloc();
+    let gate = Kinds {
+        came: AtomicU64::new(0),
+        marks: AtomicU64::new(0),
+        broods: AtomicU64::new(0),
+        alone: AtomicU64::new(0),
+    };
+    plan_the_trap(
+        &rt,
+        alloc,
+        &["--workers", "2", "--ahead", "4"],
+        &gate,
+        Vec::new(alloc),
+    )?;
+    assert!(rt; gate.marks.load(Ordering::SeqCst) > 0);
+    assert!(rt; gate.broods.load(Ordering::SeqCst) > 0);
     assert_eq!(rt; gate.alone.load(Ordering::SeqCst), 0);
     Ok(())
 }

@@ -8,6 +8,7 @@ use Rattle.wp_plain.specs.Pairs.{all_tuples, tuple_count, exceeds}
 use Rattle.wp_plain.specs.Run.{opening, ending_of}
 use Rattle.wp_plain.specs.Steps.{Asked, end_of}
 use Rattle.wp_plain.specs.Laws.{AnswersFor}
+use Rattle.wp_ahead.specs.KeptBroods.{Fit}
 use Rattle.wp_commit.specs.Searched.{IsIndexFor, StandsAt}
 use Rattle.wp_commit.proofs.EndLemmas.{all-index, all-len}
 use Rattle.wp_commit.proofs.best_first.search_in.Goals as goal
@@ -48,6 +49,7 @@ search_from-requires-clause-opens g c =
         all = ap (λ (a : Asked). a.tuples) run ∙ sym (ap (λ (i : Placing). i.len) c.in_ok-store.ensures.index
             ∙ all-len task settings c.replace-empty.result.index (ap (λ (t : TablesOver Indexed). t.index) c.replace-empty.ensures.value ∙ c.requires.index));
         works = c.in_ok-store.ensures.works;
+        fit = subst (λ (a : Asked). Fit a.task s.searched.nodes s.broods) (sym c.in_ok-store.ensures.run) c.in_ok-store.ensures.fit;
       },
       subst (λ (a : Asked). StandsAt s.run.task s.run.settings s.searched (placed all_placed s.tables) (opening a.task a.settings)) (own_is ∙ sym asked)
           (subst (λ (a : Asked). StandsAt a.task a.settings s.searched (placed all_placed s.tables) (opening own.task own.settings)) (sym c.in_ok-store.ensures.run) c.in_ok-store.ensures.stands),
@@ -73,3 +75,9 @@ returns-clause-events g c list untold =
     let asked : c.of-asked.result ≡ record { task = task; settings = settings; tuples = all_tuples task settings } =
     c.of-asked.ensures ∙ (λ j. (let a : Asked = record { task = task; settings = settings; tuples = tuples j } in a)) in
     subst (λ (a : Asked). AreAfter list (end_of a).1.events (places c.search_from.new.watchers)) asked (c.in_ok-ending.ensures.events list untold)
+
+pub opening-requires-clause-works : goal.opening-requires-clause-works
+opening-requires-clause-works g c = record {
+  takes = λ run tables marks aheads ready can. ((ready, can), (search rules, search rules));
+  gives = λ run tables marks aheads worked post. post.2;
+}

@@ -1,8 +1,7 @@
-use Rattle.std.proofs.Common.{◌≡◌, ◌+◌, List, length, sym, ap, ◌∙◌, subst, rules}
+use Rattle.std.proofs.Common.{◌≡◌, ◌+◌, length, sym, ap, ◌∙◌, subst, rules}
 use Rattle.std.specs.List.{All}
 use Rattle.std.specs.Vec.Iter.{into_iter_items}
 use Rattle.std.proofs.lemmas.List.Elements.{All-push}
-use Rattle.wp_novel.specs.Births.{BirthView}
 use Rattle.wp_plain.specs.Explored.{numbered}
 use Rattle.wp_commit.specs.Newborns.{rest_of}
 use Rattle.wp_commit.specs.Entering.{IsFresh}

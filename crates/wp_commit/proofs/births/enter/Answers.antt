@@ -1,4 +1,4 @@
-use Rattle.std.proofs.Common.{◌≡◌, ◌++◌, refl, sym, ap, ◌∙◌, subst}
+use Rattle.std.proofs.Common.{◌++◌, refl, sym, ap, ◌∙◌, subst}
 use Rattle.wp_tuples.specs.Placing.{Placing, all_placed}
 use Rattle.wp_novel.specs.NoveltyTables.{placed}
 use Rattle.wp_novel.specs.StandsFor.{StandsFor}
@@ -8,6 +8,7 @@ use Rattle.wp_plain.specs.Explored.{all_numbered}
 use Rattle.wp_commit.specs.Entering.{StandsForEarlier}
 use Rattle.wp_commit.specs.Expansions.{brood_of}
 use Rattle.wp_commit.proofs.ExpansionLemmas.{can-born, in_hand, laws_of, last-before, newborns-here, some_same, stands-earlier}
+use Rattle.wp_commit.proofs.TakeLemmas.{marked-nodes, waiting-kept}
 use Rattle.wp_commit.proofs.births.enter.Goals as goal
 
 pub open_all-requires-clause-home : goal.open_all-requires-clause-home
@@ -51,8 +52,19 @@ number_all-requires-clause-earlier g c =
     (in_hand a.task s tables c.args.number x (laws_of c.counters_are_carried.ensures.children c.children_are_numbered.ensures c.nodes_are_numbered.ensures) e) taken.0 taken.1 taken.2
     opened (c.in_ok-open_all.ensures.stands (generated_in taken.0.nodes) taken.2.holds.words.births))
 
-pub returns : goal.returns
-returns g c m node at =
+pub number_all-requires-clause-waiting : goal.number_all-requires-clause-waiting
+number_all-requires-clause-waiting g c =
+    let a = c.args.run.now in
+    let s = c.args.searched.now in
+    let taken = c.requires.taken in
+    waiting-kept a.task a.settings s (placed all_placed c.args.tables.now) taken.0 taken.2.holds taken.1 taken.2.waiting
+
+pub number_all-requires-clause-marked : goal.number_all-requires-clause-marked
+number_all-requires-clause-marked g c =
+    marked-nodes c.args.run.now.task c.args.searched.now.nodes c.requires.taken.0 c.requires.taken.2.holds.nodes
+
+pub returns-clause-entered : goal.returns-clause-entered
+returns-clause-entered g c m node at =
     let a = c.args.run.now in
     let s = c.args.searched.now in
     let tables = placed all_placed c.args.tables.now in

@@ -4,7 +4,7 @@ use Rattle.std.specs.Vec.Iter.{into_iter_items}
 use Rattle.wp_tuples.specs.Placing.{all_placed}
 use Rattle.wp_task.specs.Novelty.{Generated}
 use Rattle.wp_novel.specs.Births.{BirthView}
-use Rattle.wp_novel.specs.NoveltyTables.{TablesOver, placed, IsAtHome}
+use Rattle.wp_novel.specs.NoveltyTables.{placed, IsAtHome}
 use Rattle.wp_novel.specs.StandsFor.{StandsFor}
 use Rattle.wp_plain.specs.Explored.{all_numbered}
 use Rattle.wp_commit.specs.declared.births.Rest.{Rest}

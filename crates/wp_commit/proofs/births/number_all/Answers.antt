@@ -1,14 +1,13 @@
-use Rattle.std.proofs.Common.{◌≡◌, ◌++◌, ℕ, length, sym, ap, ◌∙◌, subst}
+use Rattle.std.proofs.Common.{length, sym, ap, ◌∙◌, subst}
 use Rattle.std.specs.List.{All}
 use Rattle.std.proofs.lemmas.List.{length-map}
 use Rattle.wp_tuples.specs.Placing.{all_placed}
-use Rattle.wp_novel.specs.Births.{BirthView, nodes_of}
+use Rattle.wp_novel.specs.Births.{nodes_of}
 use Rattle.wp_novel.specs.NoveltyTables.{placed}
-use Rattle.wp_novel.specs.StandsFor.{StandsFor}
-use Rattle.wp_plain.specs.Explored.{all_numbered}
 use Rattle.wp_commit.specs.Newborns.{rest_of}
-use Rattle.wp_commit.specs.Entering.{IsFresh, CanBeAsked}
+use Rattle.wp_commit.specs.Entering.{CanBeAsked}
 use Rattle.wp_commit.proofs.BirthLemmas.{count-births, births_ready, births_asked, births_later, births_rising, still_born, still_earlier}
+use Rattle.wp_commit.proofs.MarkingLemmas.{are-made}
 use Rattle.wp_commit.proofs.births.number_all.Goals as goal
 
 pub mark_all-requires-clause-ready : goal.mark_all-requires-clause-ready
@@ -47,3 +46,15 @@ newborns_of-requires-clause-asked g c =
     (still_earlier s parent old new earlier (nodes_of births) (c.in_ok-births-2.ensures.stands earlier.births earlier.stands))
     children births c.in_ok-births.ensures.births c.in_ok-births.ensures.fresh
     (still_born old new children c.in_ok-births-2.ensures.pairs c.in_ok-births-2.ensures.index c.requires.ready))
+
+pub mark_all-requires-clause-aheads : goal.mark_all-requires-clause-aheads
+mark_all-requires-clause-aheads g c =
+    c.jobs_can_be_worked.ensures c.args.run.now.task c.args.searched.now.nodes c.in_ok-aheads.aheads c.requires.marked c.in_ok-aheads.ensures.jobs
+
+pub returns-clause-aheads : goal.returns-clause-aheads
+returns-clause-aheads g c =
+    are-made c.worked_jobs_fit.ensures c.args.run.now.task c.args.searched.now.nodes c.in_ok-aheads.aheads c.in_ok-births-2.aheads
+    c.in_ok-aheads.ensures.jobs c.in_ok-births-2.ensures.aheads
+
+pub returns-clause-fit : goal.returns-clause-fit
+returns-clause-fit g c = c.in_ok-aheads.ensures.fits c.args.run.now.task c.args.searched.now.nodes c.requires.fit

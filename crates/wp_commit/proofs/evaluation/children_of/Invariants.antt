@@ -9,6 +9,6 @@ abbrev pub invariant-loop-next : goal.invariant-loop-next
 invariant-loop-next l = record {
   room : l.workspace ≡ room_for l.task;
   sizes : All (λ x. length x.state ≡ l.task.atoms) (into_iter_items l.next-iterator);
-  children : l.children.items ++ map (λ x. child_of l.task l.mark l.track x.act x.state) (into_iter_items l.next-iterator)
-      ≡ map (λ x. child_of l.task l.mark l.track x.act x.state) l.fn.reached.items;
+  children : l.children.items ++ map (λ x. child_of l.task l.mark l.track x.rest x.state) (into_iter_items l.next-iterator)
+      ≡ map (λ x. child_of l.task l.mark l.track x.rest x.state) l.fn.reached.items;
 }

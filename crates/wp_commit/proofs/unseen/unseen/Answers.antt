@@ -1,8 +1,8 @@
-use Rattle.std.proofs.Common.{suc, arith, ◌≡◌, ◌+◌, ◌++◌, ◌∷◌, drop, map, get_or, sym, ap, ◌∙◌}
+use Rattle.std.proofs.Common.{ℕ, suc, arith, ◌≡◌, ◌+◌, ◌++◌, ◌∷◌, drop, map, get_or, sym, ap, ◌∙◌}
 use Rattle.std.proofs.Math.Seq.{drop-cons}
-use Rattle.wp_plain.specs.Nodes.{Successor}
 use Rattle.wp_plain.specs.Expansion.{unseen}
 use Rattle.wp_plain.proofs.UnseenLemmas.{unseen-next}
+use Rattle.wp_commit.specs.declared.unseen.Reached.{Reached}
 use Rattle.wp_commit.specs.Expansions.{states_of, successors_by}
 use Rattle.wp_commit.proofs.unseen.unseen.Goals as goal
 
@@ -16,8 +16,8 @@ loop-act-preserved c =
     let kept = states_of c.args.nodes.now.kept in
     let before = c.loop-act.reached.keys in
     let rest = successors_by acts state (drop (i + 1) numbers) in
-    let x : Successor = record { act = act; state = c.in_ok-next.next } in
+    let x : Reached ℕ = record { state = c.in_ok-next.next; rest = act } in
     unseen-next (λ y. y.state) kept before c.insert_unseen.new.reached.keys x rest c.in_ok-insert_unseen.ensures
-    ∙ ((λ j. before ++ unseen (λ y. y.state) (kept ++ map (λ y. y.state) before) ((let y : Successor = record { act = act; state = c.in_ok-next.ensures j } in y) ∷ rest))
+    ∙ ((λ j. before ++ unseen (λ y. y.state) (kept ++ map (λ y. y.state) before) ((let y : Reached ℕ = record { state = c.in_ok-next.ensures j; rest = act } in y) ∷ rest))
     ∙ (ap (λ l. before ++ unseen (λ y. y.state) (kept ++ map (λ y. y.state) before) (successors_by acts state l)) (sym (drop-cons numbers i 0 c.loop-act-test.true ∙ ap (λ k. act ∷ drop k numbers) (let e : suc i ≡ i + 1 = omega arith in e)))
     ∙ c.loop-act.invariant))

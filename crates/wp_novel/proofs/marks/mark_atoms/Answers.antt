@@ -1,7 +1,7 @@
 use Rattle.std.proofs.Common.{◌∷◌, ◌++◌, [], ℕ, List, map, ap, ◌∙◌, arith}
 use Rattle.std.proofs.lemmas.List.{take_all}
 use Rattle.wp_tuples.specs.Placing.{HasPlace}
-use Rattle.wp_arrive.specs.declared.view.Mark.{Mark}
+use Rattle.wp_arrive.specs.declared.view.Arrival.{Arrival}
 use Rattle.wp_arrive.specs.FirstArrival.{mark}
 use Rattle.wp_arrive.specs.Rule.{latest}
 use Rattle.wp_arrive.specs.Seen.{PassView, seen}
@@ -26,11 +26,11 @@ mark_again-requires-clause-latest g c = c.loop-p.invariant.latest_is
 pub loop-p-preserved : goal.loop-p-preserved
 loop-p-preserved g c =
     let was = c.args.pass.now in
-    let here : Mark = mark c.atom_place.result c.args.number in
+    let here : Arrival = mark c.atom_place.result c.args.number in
     record {
       pass = c.mark_again.ensures
           ∙ (ap (λ (p : PassView). seen p.table (p.marks ++ here ∷ []) p.parts) c.loop-p.invariant.pass
-          ∙ ap (λ (l : List Mark). seen was.table l was.parts)
+          ∙ ap (λ (l : List Arrival). seen was.table l was.parts)
           (marks_more (g.P.Places.places c.args.index.now) c.args.number (single) was.marks c.args.atoms.now c.loop-p.p-index c.atom_place.result c.loop-p-test.true
           c.atom_place.ensures.place));
       latest_is = ap (λ (p : PassView). latest p.marks) c.mark_again.ensures ∙ latest-push c.loop-p.pass.marks here;

@@ -2,7 +2,7 @@ use Rattle.std.proofs.Common.{◌≡◌, ◌==◌, ◌<◌, ◌≤◌, ◌++◌,
 use Rattle.std.proofs.lemmas.Bool.{cases_lt, both_ways}
 use Rattle.std.specs.List.{All}
 use Rattle.wp_tuples.specs.Placing.{HasPlace}
-use Rattle.wp_arrive.specs.declared.view.Mark.{Mark}
+use Rattle.wp_arrive.specs.declared.view.Arrival.{Arrival}
 use Rattle.wp_arrive.specs.FirstArrival.{mark}
 use Rattle.wp_arrive.specs.Rule.{latest}
 use Rattle.wp_arrive.specs.Seen.{PassView, seen}
@@ -22,7 +22,7 @@ pub returns-then-is_empty : goal.returns-then-is_empty
 returns-then-is_empty g c =
     let was = c.args.pass.now in
     let places = g.P.Places.places c.args.index.now in
-    ap (λ (l : List Mark). seen was.table l was.parts)
+    ap (λ (l : List Arrival). seen was.table l was.parts)
     (sym (append-nil was.marks) ∙ ap (λ (l : List (List ℕ)). was.marks ++ marks_at places c.args.number l)
     (sym (no_tuples places.width c.args.old.now c.args.new.now (sym c.is_empty.ensures ∙ c.if-is_empty.true))))
 
@@ -53,15 +53,15 @@ returns-then-width-eq2 g c =
     let old = c.args.old.now in
     let new = c.args.new.now in
     let number = c.args.number in
-    let rest : List Mark = marks_at places number (map single (drop 1 new)) in
-    let pairs : List Mark = marks_at places number (pairs_after old new) in
+    let rest : List Arrival = marks_at places number (map single (drop 1 new)) in
+    let pairs : List Arrival = marks_at places number (pairs_after old new) in
     let atoms : c.mark_atoms.new.pass ≡ seen c.mark.new.pass.table (c.mark.new.pass.marks ++ rest) c.mark.new.pass.parts =
     c.mark_atoms.ensures.marked ∙ ap (λ (l : List ℕ). seen c.mark.new.pass.table (c.mark.new.pass.marks ++ marks_at places number (map single l)) c.mark.new.pass.parts) (rest_is new) in
     c.mark_pairs.ensures
     ∙ (ap (λ (p : PassView). seen p.table (p.marks ++ pairs) p.parts) atoms
     ∙ (ap (λ (p : PassView). seen p.table ((p.marks ++ rest) ++ pairs) p.parts) c.mark.ensures
-    ∙ ap (λ (l : List Mark). seen was.table l was.parts)
-    (ap (λ (l : List Mark). l ++ pairs) (marks_of_singles places number was.marks new c.atom_place.result
+    ∙ ap (λ (l : List Arrival). seen was.table l was.parts)
+    (ap (λ (l : List Arrival). l ++ pairs) (marks_of_singles places number was.marks new c.atom_place.result
     (some new c.is_empty.result c.is_empty.ensures c.if-is_empty.false) c.atom_place.ensures.place)
     ∙ marks_of_all places number places.width was.marks old new true (eq-eqb places.width 2 (sym c.width.ensures.value ∙ c.if-width-eq2.true)))))
 
@@ -72,13 +72,13 @@ returns-else-width-eq2 g c =
     let old = c.args.old.now in
     let new = c.args.new.now in
     let number = c.args.number in
-    let rest : List Mark = marks_at places number (map single (drop 1 new)) in
-    let alone : List Mark = was.marks ++ marks_at places number (map single new) in
+    let rest : List Arrival = marks_at places number (map single (drop 1 new)) in
+    let alone : List Arrival = was.marks ++ marks_at places number (map single new) in
     let atoms : c.mark_atoms.new.pass ≡ seen c.mark.new.pass.table (c.mark.new.pass.marks ++ rest) c.mark.new.pass.parts =
     c.mark_atoms.ensures.marked ∙ ap (λ (l : List ℕ). seen c.mark.new.pass.table (c.mark.new.pass.marks ++ marks_at places number (map single l)) c.mark.new.pass.parts) (rest_is new) in
     atoms
     ∙ (ap (λ (p : PassView). seen p.table (p.marks ++ rest) p.parts) c.mark.ensures
-    ∙ ap (λ (l : List Mark). seen was.table l was.parts)
+    ∙ ap (λ (l : List Arrival). seen was.table l was.parts)
     (marks_of_singles places number was.marks new c.atom_place.result (some new c.is_empty.result c.is_empty.ensures c.if-is_empty.false) c.atom_place.ensures.place
     ∙ (sym (append-nil alone)
     ∙ marks_of_all places number places.width was.marks old new false (ne_eqb places.width 2 (λ same. c.if-width-eq2.false (c.width.ensures.value ∙ same))))))

@@ -1,7 +1,7 @@
-use Rattle.std.proofs.Common.{◌≡◌, ◌<◌, ◌^◌, ap, sym, ◌∙◌, arith}
+use Rattle.std.proofs.Common.{◌≡◌, ◌<◌, ap, sym, ◌∙◌, arith}
 use Rattle.wp_arrive.specs.Rule.{latest}
 use Rattle.wp_arrive.specs.Seen.{TableId, PassView}
-use Rattle.wp_arrive.proofs.Steps.{marks, repeats}
+use Rattle.wp_arrive.proofs.Steps.{repeats}
 use Rattle.wp_arrive.proofs.arrivals.Arrivals.mark_again.Goals as goal
 
 pub load-word-requires : goal.load-word-requires

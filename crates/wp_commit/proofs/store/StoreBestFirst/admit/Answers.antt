@@ -1,4 +1,4 @@
-use Rattle.std.proofs.Common.{◌≡◌, ◌-◌, ◌≤◌, ◌++◌, Option, Some, false, MatchOption, is_some, length, sym, ap, ◌∙◌, subst, arith}
+use Rattle.std.proofs.Common.{◌≡◌, ◌-◌, ◌≤◌, ◌++◌, false, MatchOption, is_some, length, sym, ap, ◌∙◌, subst, arith}
 use Rattle.wp_tuples.specs.Placing.{Placing, all_placed}
 use Rattle.wp_novel.specs.NoveltyTables.{placed}
 use Rattle.wp_nodes.specs.declared.kept.Kept.{Kept}
@@ -9,11 +9,12 @@ use Rattle.wp_plain.specs.Pairs.{exceeds}
 use Rattle.wp_plain.specs.Explored.{all_numbered}
 use Rattle.wp_plain.specs.Numbers.{next_of}
 use Rattle.wp_plain.specs.Steps.{Asked, CanExpand, event_for}
+use Rattle.wp_ahead.specs.Laws.{GoesOn}
 use Rattle.wp_commit.specs.Newborns.{event_as, IsCommitted}
 use Rattle.wp_commit.specs.Expansions.{brood_of}
 use Rattle.wp_commit.specs.Searched.{StandsAt}
 use Rattle.wp_commit.proofs.ExpansionLemmas.{event-for, fits, goes, in_hand, laws_of, kept-few, needed-length, newborns-fit, some_same}
-use Rattle.wp_commit.proofs.NewbornLemmas.{length-newborns}
+use Rattle.wp_commit.proofs.NewbornLemmas.{length-newborns, nodes-go-on}
 use Rattle.wp_commit.proofs.store.StoreBestFirst.admit.Goals as goal
 
 pub enter-requires : goal.enter-requires
@@ -36,6 +37,7 @@ enter-requires g c =
       evaluated = e;
       numbers = (fits a.task a.settings s tables number e.node (brood_of a.task s.nodes e.node) x.children.items x.pairs.items ev any.0 any.1 any.2.1 can.later budget x.repeats repeats_is).0;
       few = (λ j. exceeds a.settings.words (needed j) (sym any.2.0.all j)) ∙ can.few;
+      fit = any.2.0.fit;
     }
 
 pub keep_expansion-requires : goal.keep_expansion-requires
@@ -53,7 +55,7 @@ keep_expansion-requires g c =
     let repeats_is : x.repeats ≡ length (brood_of a.task s.nodes e.node) - length x.children.items = omega (arith, e.repeats_are) in
     let small = fits a.task a.settings s tables number e.node (brood_of a.task s.nodes e.node) x.children.items x.pairs.items ev any.0 any.1 any.2.1 can.later budget x.repeats repeats_is in
     let numbered = c.in_ok-numbered.numbered in
-    let entered = c.in_ok-numbered.ensures any.0 any.1 any.2.1 in
+    let entered = c.in_ok-numbered.ensures.entered any.0 any.1 any.2.1 in
     let count : length numbered.newborns.items ≡ length x.children.items =
     ap length entered.newborns ∙ length-newborns a.settings.width (generated_in any.0.nodes ++ all_numbered (length any.0.nodes) x.children.items) (length any.0.nodes) x.children.items in
     let holds = any.2.1.holds in
@@ -67,6 +69,9 @@ keep_expansion-requires g c =
       few_repeats = omega (arith, small.2, entered.repeats);
     }
 
+pub keep-requires : goal.keep-requires
+keep-requires g c = c.in_ok-numbered.ensures.aheads.worked
+
 pub returns : goal.returns
 returns g c m node at can =
     let asked = c.args.run.now in
@@ -78,7 +83,7 @@ returns g c m node at can =
     let e = at.2 in
     let ev = in_hand a.task s tables number x (laws_of c.counters_are_carried.ensures.children c.children_are_numbered.ensures c.nodes_are_numbered.ensures) e in
     let numbered = c.in_ok-numbered.numbered in
-    let entered = c.in_ok-numbered.ensures m node at.1 in
+    let entered = c.in_ok-numbered.ensures.entered m node at.1 in
     let repeats_is : numbered.repeats ≡ length (brood_of a.task s.nodes e.node) - length x.children.items = omega (arith, e.repeats_are, entered.repeats) in
     let k = c.node_at-node.result.now in
     let same : k ≡ e.node = some_same k e.node _ c.node_at-node.ensures.node e.found in
@@ -86,13 +91,17 @@ returns g c m node at can =
     let settings_are : c.settings.result.now ≡ a.settings = c.settings.ensures.value ∙ ap (λ (b : Asked). b.settings) (sym at.0.same) in
     let committed = subst (λ (t : Settings). IsCommitted t number e.node.mark.track numbered.newborns.items numbered.repeats s later) settings_are
     (subst (λ (n : Kept). IsCommitted c.settings.result.now number n.mark.track numbered.newborns.items numbered.repeats s later) same c.in_ok-keep_expansion.ensures) in
+    let on : GoesOn s.nodes later.nodes =
+    subst (GoesOn s.nodes) (sym committed.nodes) (nodes-go-on a.settings number e.node.mark.track s.nodes numbered.newborns.items) in
+    let fit = c.broods_go_on_fitting.ensures a.task s.nodes later.nodes c.keep.new.self e.linked on
+    (c.in_ok-keep.ensures.fits a.task s.nodes c.in_ok-numbered.ensures.fit c.in_ok-numbered.ensures.aheads.fit) in
     let event : event_as a.settings k numbered.repeats numbered.newborns.items ≡ event_for asked m node =
     ap (λ (n : Kept). event_as a.settings n numbered.repeats numbered.newborns.items) same
     ∙ (event-for a.task a.settings s tables number e.node (brood_of a.task s.nodes e.node) x.children.items x.pairs.items ev m node at.1
     numbered.newborns.items numbered.repeats entered.newborns repeats_is
     ∙ ap (λ (b : Asked). event_for b m node) at.0.same) in (
       (
-        record { same = at.0.same; all = at.0.all ∙ ap (λ (i : Placing). i.len) (sym entered.index); works = at.0.works },
+        record { same = at.0.same; all = at.0.all ∙ ap (λ (i : Placing). i.len) (sym entered.index); works = at.0.works; fit = fit },
         subst (λ (b : Asked). StandsAt a.task a.settings later (placed all_placed c.enter.new.tables) (next_of b.task b.settings m node)) at.0.same
             (goes a.task a.settings s tables number e.node (brood_of a.task s.nodes e.node) x.children.items x.pairs.items ev m node at.1
             (placed all_placed c.enter.new.tables) numbered.newborns.items numbered.repeats later entered.newborns repeats_is committed

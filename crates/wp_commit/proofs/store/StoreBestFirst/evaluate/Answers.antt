@@ -1,6 +1,8 @@
 use Rattle.std.proofs.Common.{◌≡◌, ◌+◌, ◌≤◌, ℕ, length, sym, ap, ◌∙◌, subst, arith, rules}
 use Rattle.wp_novel.specs.NoveltyTables.{placed}
 use Rattle.wp_tuples.specs.Placing.{all_placed}
+use Rattle.wp_nodes.specs.KeptNodes.{Keeping}
+use Rattle.wp_ahead.specs.KeptBroods.{KeptBroods, Fit}
 use Rattle.wp_plain.specs.Pairs.{pairs_in}
 use Rattle.wp_plain.specs.Run.{all_at}
 use Rattle.wp_plain.specs.Steps.{Asked}
@@ -10,10 +12,14 @@ use Rattle.wp_commit.specs.Searched.{IsRunOf, IsTakenAt}
 use Rattle.wp_commit.proofs.ExpansionLemmas.{in_hand, laws_of, needed-few, needed-length}
 use Rattle.wp_commit.proofs.store.StoreBestFirst.evaluate.Goals as goal
 
--- a run is known by what it was made for
-run_of : {W : Type 0} (calls : Calls W) (work : W) (run later asked : Asked) (tuples : ℕ) → run ≡ later → IsRunOf calls work run asked tuples →
-    IsRunOf calls work later asked tuples
-run_of calls work run later asked tuples same is = subst (λ (b : Asked). IsRunOf calls work b asked tuples) same is
+-- a run is known by what it was made for, and by broods that are those of their nodes
+run_of : {W : Type 0} (calls : Calls W) (work : W) (run later asked : Asked) (tuples : ℕ) (nodes : Keeping) (broods left : KeptBroods) → run ≡ later →
+    Fit run.task nodes left → IsRunOf calls work run asked tuples nodes broods → IsRunOf calls work later asked tuples nodes left
+run_of calls work run later asked tuples nodes broods left same fit is =
+    subst (λ (b : Asked). IsRunOf calls work b asked tuples nodes left) same (record { same = is.same; all = is.all; works = is.works; fit = fit })
+
+pub expansion_of-requires-clause-fit : goal.expansion_of-requires-clause-fit
+expansion_of-requires-clause-fit g c = c.requires.taken.2.0.fit
 
 pub overflow_add-needed : goal.overflow_add-needed
 overflow_add-needed g c =
@@ -42,7 +48,7 @@ returns g c m node taken =
     let e = c.in_ok-expansion.ensures.evaluated in
     let counted : c.len.result ≡ length x.pairs.items = search rules in (
       (
-        run_of _ _ a _ asked _ (sym c.in_ok-expansion.ensures.same) taken.0,
+        run_of _ _ a _ asked _ s.nodes c.args.self.now.broods _ (sym c.in_ok-expansion.ensures.same) c.in_ok-expansion.ensures.fit taken.0,
         subst (λ (b : Asked). IsTakenAt b.task b.settings s tables m node number) (sym c.in_ok-expansion.ensures.same) taken.1,
         subst (λ (b : Asked). IsExpansionOf b.task s tables number x) (sym c.in_ok-expansion.ensures.same) e,
       ),

@@ -16,7 +16,7 @@ returns g c =
     let number = c.node_at-node.result.now.number in
     IfOk-weaker c.plan_to.result (λ (plan : List ℕ). IsAlongLinks s.searched.nodes.kept number plan)
     (λ (plan : List ℕ). (asked : Asked) (m : Moment) (node : Node) →
-    IsRunOf _ s.work s.run asked _ × IsTakenAt s.run.task s.run.settings s.searched (placed all_placed s.tables) m node c.args.number → plan ≡ (path_at m.paths node.generated.number).acts)
+    IsRunOf _ s.work s.run asked _ s.searched.nodes s.broods × IsTakenAt s.run.task s.run.settings s.searched (placed all_placed s.tables) m node c.args.number → plan ≡ (path_at m.paths node.generated.number).acts)
     (λ plan links asked m node taken.
     links (plans_in m.paths) (plans-follow s.run.task s.searched.nodes m taken.1.holds.nodes) ∙ ap (plans_in m.paths) (c.node_at-node.ensures.named ∙ sym taken.1.named))
     c.plan_to.ensures.links

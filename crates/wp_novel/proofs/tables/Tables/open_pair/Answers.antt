@@ -18,7 +18,7 @@ invariant_of-self-2 g c =
     let product : c.len.result * c.len-tuples.result ≡ length x.homes.entries * (g.P.Places.places x.index).len = (λ j. size j * tuples j) in
     let fits : length x.homes.entries * (g.P.Places.places x.index).len + (g.P.Places.places x.index).len ≤ x.limit = omega (arith, c.if-need-self.false) in (
       subst (λ (homes : Homes). AreFilled (of homes)) (sym c.in_ok-add.ensures.added)
-          (filled_more (of x.homes.entries) c.args.pair c.in_ok-home.home c.self.invariant.0 (c.in_ok-home.ensures.words ∙ tuples) fits),
+          (filled_more (of x.homes.entries) c.args.pair c.in_ok-home.home c.self.invariant.0 (c.in_ok-home.ensures.words ∙ c.in_ok-fit.ensures ∙ tuples) fits),
       c.self.invariant.1,
       c.self.invariant.2,
     )

@@ -2,7 +2,7 @@ use Rattle.std.proofs.Common.{rules, ◌≡◌, length, sym, ap, ◌∙◌}
 use Rattle.wp_tuples.specs.Placing.{all_placed}
 use Rattle.wp_novel.specs.Jobs.{worked_job}
 use Rattle.wp_commit.proofs.MarkingLemmas.{each_worked}
-use Rattle.wp_commit.proofs.marking.run_jobs.Goals as goal
+use Rattle.wp_commit.proofs.marking.run_marks.Goals as goal
 
 pub returns : goal.returns
 returns g c =

@@ -12,7 +12,7 @@ use Rattle.wp_plain.specs.Steps.{Asked}
 use Rattle.wp_commit.specs.declared.searched.Searched.{Searched}
 use Rattle.wp_commit.specs.Searched.{IsIndexFor}
 use Rattle.wp_commit.proofs.RootLemmas.{root_birth, root_kept, opening-stands}
-use Rattle.wp_commit.proofs.root.root_of.Goals as goal
+use Rattle.wp_commit.proofs.root.root_kept.Goals as goal
 
 pub returns-clause-stands : goal.returns-clause-stands
 returns-clause-stands g c =

@@ -1,0 +1,1 @@
+(define (problem p) (:domain chain) (:init (a)) (:goal (c)))
