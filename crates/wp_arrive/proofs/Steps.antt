@@ -1,5 +1,5 @@
 -- Each of the four steps keeps the rule, from any state that meets it.
-use Rattle.std.proofs.Common.{◌≡◌, ℕ, zero, suc, ◌<◌, ◌≤◌, ◌^◌, Bool, true, false, List, [], ◌∷◌, ◌++◌, length, get_or, set, sym, refl, ap, ◌∙◌, subst, arith, length-set, get_or-set_other, get_or-set_same}
+use Rattle.std.proofs.Common.{◌≡◌, ℕ, zero, suc, ◌<◌, ◌≤◌, ◌^◌, Bool, true, false, List, [], ◌∷◌, ◌++◌, length, get_or, set, sym, refl, append-nil, ap, ◌∙◌, subst, arith, length-set, get_or-set_other, get_or-set_same}
 use Prim.Native.Nat.{min}
 use Rattle.std.specs.Prelude.{nat_le}
 use Rattle.std.specs.Bool.{MatchBool}
@@ -12,22 +12,30 @@ use Rattle.std.proofs.lemmas.List.{get_or-replicate, length-replicate}
 use lib.Seq.{set-get_or}
 use Rattle.atomic_table.specs.Table.{State, Me, Act, Valid, step, keeps, carried_after, stepped, opening, Allows, Splits, Joins}
 use Rattle.atomic_table.proofs.Lists.{set_again, set_else}
+use Rattle.wp_arrive.specs.declared.view.Arrival.{Arrival}
 use Rattle.wp_arrive.specs.declared.view.View.{View}
 use Rattle.wp_arrive.specs.FirstArrival.{mark, first}
-use Rattle.wp_arrive.specs.Rule.{view, whole, spent, one_less, one_part, joined, marks_of, parts_of, IdleIsEmpty, Keeps, Gains, Repeats, Reads, latest}
+use Rattle.wp_arrive.specs.Rule.{view, whole, spent, one_less, one_part, joined, marks_of, parts_of, IdleIsEmpty, Keeps, AreFirsts, Gains, Repeats, Reads, latest}
 use Rattle.wp_arrive.proofs.Firsts.{none_yet, first_le, first_append, gained_here, gained_any, gained_else, first_set, first_gone, first_below, first_snoc, parts_set, parts_snoc, all_mine, idle_set, idle_snoc}
 
-idle_open : IdleIsEmpty (whole ∷ [])
-idle_open zero v e z = ap (λ (y : View). y.marks) (sym (some-injective whole v e))
-idle_open (suc k) v e z = absurd (some-ne-none v (sym e))
+idle_open : (l : List Arrival) → IdleIsEmpty (whole l ∷ [])
+idle_open l zero v e z = absurd (let all : 2 ^ 32 ≡ v.parts = ap (λ (y : View). y.parts) (some-injective (whole l) v e) in omega arith)
+idle_open l (suc k) v e z = absurd (some-ne-none v (sym e))
 
--- a table begins with blank words and one view that has all parts
-pub opens : (count : ℕ) (ws : List ℕ) → ws ≡ replicate count none_yet → Keeps count (opening {S = ℕ} ws [] whole)
-opens count ws e = record {
-  words = ap length e ∙ length-replicate count none_yet;
-  least = λ t h. ap (λ (l : List ℕ). get_or l t 0) e ∙ get_or-replicate count t none_yet 0 h;
+-- a table begins with the first arrivals of some marks, and one view that has them and all parts
+pub begins : (l : List Arrival) (count : ℕ) (ws : List ℕ) → AreFirsts l count ws → Keeps count (opening {S = ℕ} ws [] (whole l))
+begins l count ws are = record {
+  words = are.size;
+  least = λ t h. are.least t h ∙ ap (λ k. first k t) (sym (append-nil l));
   parts = omega arith;
-  idle = idle_open;
+  idle = idle_open l;
+}
+
+-- words that say "none yet" are those of no marks
+pub opens : (count : ℕ) (ws : List ℕ) → ws ≡ replicate count none_yet → AreFirsts [] count ws
+opens count ws e = record {
+  size = ap length e ∙ length-replicate count none_yet;
+  least = λ t h. ap (λ (l : List ℕ). get_or l t 0) e ∙ get_or-replicate count t none_yet 0 h;
 }
 
 pub marks : (count slots id : ℕ) (me : Me ℕ View) (t n : ℕ) → t < count → n < none_yet → 0 < me.0.parts → Allows (Keeps count) slots id me t (λ x. min x n) (Gains (step slots t n 0 none) me)

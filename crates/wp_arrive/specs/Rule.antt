@@ -2,20 +2,27 @@
 -- Whoever has all parts knows that no other view has marks, so a word is then the first arrival of its own marks.
 use Rattle.std.specs.Prelude.{◌≡◌, ℕ, ◌+◌, ◌-◌, ◌^◌, ◌<◌, List, [], ◌∷◌, ◌++◌, length, slice_index, nat_le}
 use Rattle.std.specs.Bool.{MatchBool}
+use Rattle.std.specs.Prelude.{Option, None, Some}
 use mathlib.Core.Option.{some}
 use lib.ListN.{get_elem?}
 use Rattle.atomic_table.specs.Table.{State, Me, Step}
 use Rattle.wp_arrive.specs.declared.view.Arrival.{Arrival}
 use Rattle.wp_arrive.specs.declared.view.View.{View}
 use Rattle.wp_arrive.specs.FirstArrival.{mark, first}
+use Rattle.wp_arrive.specs.Seen.{PassView}
 
 abbrev pub view : ℕ → List Arrival → View
 view parts marks = record { parts = parts; marks = marks }
 
--- the view that a table begins with, and the one that a joined pass leaves behind
-abbrev pub whole : View
-whole = view (2 ^ 32) []
+-- the view that a table begins with: it has all parts, and the marks of another table's pass, if any
+abbrev pub whole : List Arrival → View
+whole marks = view (2 ^ 32) marks
 
+abbrev pub begun : Option PassView → View
+begun None = whole []
+begun (Some pass) = whole pass.marks
+
+-- the view that a joined pass leaves behind
 abbrev pub spent : View
 spent = view 0 []
 
@@ -47,6 +54,11 @@ pub record Keeps (count : ℕ) (s : State ℕ View) : Type 0 where
   pub least : (t : ℕ) → t < count → slice_index s.words t ≡ first (marks_of s.views) t
   pub parts : parts_of s.views ≡ 2 ^ 32
   pub idle : IdleIsEmpty s.views
+
+-- so many words, each of them the first arrival at its place
+pub record AreFirsts (marks : List Arrival) (count : ℕ) (words : List ℕ) : Type 0 where
+  pub size : length words ≡ count
+  pub least : (t : ℕ) → t < count → slice_index words t ≡ first marks t
 
 -- a mark adds its place and number to the marks of the view
 abbrev pub Gains : Step ℕ → Me ℕ View → ℕ → Me ℕ View → Type 0

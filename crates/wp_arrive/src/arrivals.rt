@@ -2,23 +2,23 @@
 //!
 //! A table begins with one pass that has all 2^32 parts. A split gives one part to a new pass, and a join takes parts
 //! and marks back. A pass that is dropped keeps its parts, and then nobody can look any more.
-ghost use Rattle.std.specs.Prelude.{◌≡◌, ◌+◌, ◌-◌, ◌^◌, ◌<◌, ◌≤◌, [], ◌∷◌, ◌++◌, IfOk};
+ghost use Rattle.std.specs.Prelude.{◌≡◌, ℕ, ◌+◌, ◌-◌, ◌^◌, ◌<◌, ◌≤◌, [], ◌∷◌, ◌++◌, IfOk};
 ghost use base.Fml.{ftrue};
 ghost use Rattle.wp_arrive.specs.FirstArrival.{mark, first};
-ghost use Rattle.wp_arrive.specs.Rule.{latest};
+ghost use Rattle.wp_arrive.specs.Rule.{latest, AreFirsts};
 ghost use Rattle.wp_arrive.specs.Seen.{TableId, table_id_coded, PassView, seen};
 
-use crate::rule::{FirstArrivals, Gives, Looks, Marks, MarksAgain};
-use crate::unmarked::Unmarked;
+use crate::rule::{FirstArrivals, Gives, Looks, Marks, MarksAgain, Origin};
 use crate::view::View;
 use atomic_table::{Seat, Table};
 use std::alloc::{AllocError, Global};
 use std::marker::Model;
+use std::mem::replace;
 
 /// A word for each place, the same to all who share it.
 #[derive(Drop)]
 pub struct Arrivals {
-    table: Table<u8, View, u64, FirstArrivals, Global>,
+    table: Table<u8, View, Origin, FirstArrivals, Global>,
 }
 
 impl Model for Arrivals {
@@ -28,7 +28,7 @@ impl Model for Arrivals {
 
     ghost view = { λ a. a.table.shared.table_id };
 
-    ghost invariant = { λ a. (a.table.shared.key ≡ a.table.shared.table_id.words) × (1 ≤ a.table.shared.table_id.words) × (a.table.shared.table_id.words ≤ 2 ^ 31) };
+    ghost invariant = { λ a. (a.table.shared.key.words ≡ a.table.shared.table_id.words) × (1 ≤ a.table.shared.table_id.words) × (a.table.shared.table_id.words ≤ 2 ^ 31) };
 }
 
 /// The right to mark a table, with the marks that were made by it. It has no bytes.
@@ -67,19 +67,71 @@ impl Arrivals {
         requires { (1 ≤ words) × (words ≤ 2 ^ 31) }
         ensures { IfOk result (λ r. (r.0.words ≡ words) × (r.1 ≡ seen r.0 [] (2 ^ 32))) }
     {
-        let mut unmarked = Unmarked::new(alloc);
-        unmarked.fit(alloc, words)?;
-        Arrivals::of_unmarked(alloc, &unmarked)
+        let first = vec![in alloc; u64::MAX; words as usize]?;
+        let origin = Origin {
+            words,
+            marked: None,
+        };
+        let (table, seat) = Table::of_words(alloc, first.as_slice(), &origin)?;
+        Ok((Arrivals { table }, Pass::of(seat)))
     }
 
-    /// The same, as many words as are lent, of which it is a copy: 8 bytes a word.
-    // A table that makes its own first words writes each word twice.
-    pub fn of_unmarked(alloc: Global, unmarked: &Unmarked) -> Result<(Arrivals, Pass), AllocError>
-        requires { (1 ≤ unmarked.now) × (unmarked.now ≤ 2 ^ 31) }
-        ensures { IfOk result (λ r. (r.0.words ≡ unmarked.now) × (r.1 ≡ seen r.0 [] (2 ^ 32))) }
+    /// A table of more words with the same marks. It takes 16 bytes a word while it is made; the old one stays as it is.
+    pub fn grown(
+        &self,
+        alloc: Global,
+        pass: &mut Pass,
+        words: u64,
+    ) -> Result<(Arrivals, Pass), AllocError>
+        requires table { pass.old.table ≡ self.now }
+        requires all { pass.old.parts ≡ 2 ^ 32 }
+        requires words { (self.now.words ≤ words) × (words ≤ 2 ^ 31) }
+        requires within { (t : ℕ) → self.now.words ≤ t → first pass.old.marks t ≡ 2 ^ 64 - 1 }
+        ensures grown { IfOk result (λ r. (r.0.words ≡ words) × (r.1 ≡ seen r.0 pass.old.marks (2 ^ 32))) }
+        ensures same { pass.new ≡ pass.old }
     {
-        let (table, seat) = Table::of_words(alloc, unmarked.as_slice(), &unmarked.len())?;
+        let first = self.first_words(alloc, pass, words)?;
+        // While the new table is told of the pass, a part of it stands in its place.
+        let part = self.split(pass);
+        let origin = Origin {
+            words,
+            marked: Some(replace(pass, part)),
+        };
+        let made = Table::of_words(alloc, first.as_slice(), &origin);
+        if let Some(marked) = origin.marked {
+            self.join(pass, marked);
+        }
+        let (table, seat) = made?;
         Ok((Arrivals { table }, Pass::of(seat)))
+    }
+
+    /// The first arrivals at so many places.
+    fn first_words(
+        &self,
+        alloc: Global,
+        pass: &mut Pass,
+        words: u64,
+    ) -> Result<Vec<u64>, AllocError>
+        requires table { pass.old.table ≡ self.now }
+        requires all { pass.old.parts ≡ 2 ^ 32 }
+        requires words { (self.now.words ≤ words) × (words ≤ 2 ^ 31) }
+        requires within { (t : ℕ) → self.now.words ≤ t → first pass.old.marks t ≡ 2 ^ 64 - 1 }
+        ensures some { IfOk result (λ _. 1 ≤ self.now.words) }
+        ensures firsts { IfOk result (λ made. AreFirsts pass.old.marks words made.items) }
+        ensures same { pass.new ≡ pass.old }
+    {
+        let mut made = vec![in alloc; u64::MAX; words as usize]?;
+        for t in 0..self.table.word_count() {
+            made[t] = self.look(pass, t as u64);
+        }
+        Ok(made)
+    }
+
+    /// How many words there are.
+    pub fn len(&self) -> u64
+        ensures { result ≡ self.now.words }
+    {
+        self.table.word_count() as u64
     }
 
     /// One atomic minimum: it waits for no other thread, and in no order of marks is one lost.

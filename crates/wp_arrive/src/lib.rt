@@ -13,10 +13,8 @@ pub mod laws;
 mod rule;
 #[cfg(test)]
 mod tests;
-pub mod unmarked;
 pub mod view;
 
 pub use arrivals::{Arrivals, Pass};
 pub use laws::{all_parts_have_all_marks, marks_in_any_order};
-pub use unmarked::Unmarked;
 pub use view::{Arrival, View};

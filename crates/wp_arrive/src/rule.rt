@@ -1,16 +1,24 @@
 //! The rule that the words keep, and what each kind of step tells the pass that makes it.
-ghost use Rattle.wp_arrive.specs.Rule.{Keeps, whole, Gains, Repeats, Reads, one_less, one_part, joined, spent};
+ghost use Rattle.wp_arrive.specs.Rule.{Keeps, begun, Gains, Repeats, Reads, one_less, one_part, joined, spent};
 
+use crate::arrivals::Pass;
 use crate::view::View;
 use atomic_table::{Join, Play, Split, TableRule};
 
-/// Each word is the first arrival of all marks. The key is the number of words.
+/// What a table is told when it is made: how many words it has, and the pass whose marks it begins with, if any.
+#[derive(Drop)]
+pub(crate) struct Origin {
+    pub words: u64,
+    pub marked: Option<Pass>,
+}
+
+/// Each word is the first arrival of all marks.
 pub(crate) struct FirstArrivals;
 
-impl TableRule<u8, View, u64> for FirstArrivals {
-    ghost holds = { Keeps };
+impl TableRule<u8, View, Origin> for FirstArrivals {
+    ghost holds = { λ origin. Keeps origin.words };
 
-    ghost first = { λ _. whole };
+    ghost first = { λ origin. begun origin.marked };
 }
 
 pub(crate) struct Marks;

@@ -6,7 +6,7 @@ use std::alloc::Global;
 use std::process::Abort;
 use std::test::Fail;
 use std::thread::Threads;
-use wp_commit::search_in;
+use wp_commit::search_over;
 use wp_edge::{OpenGate, Texts};
 use wp_novel::Tables;
 use wp_plain::{Ending, How, Search, Settings};
@@ -33,7 +33,7 @@ fn search_the_chain<R: Threads + Sync>(
     let index = TupleIndex::new(task.atoms(), 1);
     let mut tables = Tables::new(alloc, index, 9);
     let mut watchers = Watchers::new(alloc, list)?;
-    let ending = search_in(
+    let ending = search_over(
         rt,
         alloc,
         &task,
@@ -47,7 +47,7 @@ fn search_the_chain<R: Threads + Sync>(
 }
 
 /// Fails unless the texts are these.
-fn compare<R: Abort>(rt: &R, texts: &Texts, wanted: &[&str]) {
+pub(crate) fn compare<R: Abort>(rt: &R, texts: &Texts, wanted: &[&str]) {
     assert!(rt; texts.as_slice().len() == wanted.len());
     for (text, want) in texts.as_slice().iter().zip(wanted) {
         assert!(rt; text.as_slice() == want.as_bytes());

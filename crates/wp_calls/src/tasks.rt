@@ -1,6 +1,6 @@
 //! Tasks of small numbers, with their plans, relaxed plans and costs: each call that takes memory answers.
 ghost use Rattle.std.specs.Prelude.{◌≡◌, ◌≤◌, ℕ, true, false, length, IfOk, OnOk, All};
-ghost use Rattle.wp_task.specs.Set.{lists, AreAtoms};
+ghost use Rattle.wp_task.specs.Set.{lists, set_of, AreAtoms};
 ghost use Rattle.wp_task.specs.Task.{IsAct};
 
 use std::alloc::{AllocError, Global};
@@ -41,7 +41,8 @@ fn check_apart(add: &[u32], del: &[u32]) -> Result<(), Fail>
 }
 
 fn atoms_of(alloc: Global, size: u32, numbers: &[u32]) -> Result<Atoms, Fail>
-    ensures { IfOk result (λ atoms. AreAtoms size atoms) }
+    ensures fits { IfOk result (λ atoms. AreAtoms size atoms) }
+    ensures value { IfOk result (λ atoms. atoms ≡ numbers.now) }
 {
     check_atoms(size, numbers)?;
     let items = Vec::from_slice(alloc, numbers)?;
@@ -49,15 +50,17 @@ fn atoms_of(alloc: Global, size: u32, numbers: &[u32]) -> Result<Atoms, Fail>
 }
 
 pub(crate) fn state_of(alloc: Global, size: u32, numbers: &[u32]) -> Result<State, Fail>
-    ensures { IfOk result (λ state. length state ≡ size) }
+    ensures size { IfOk result (λ state. length state ≡ size) }
+    ensures value { IfOk result (λ state. state ≡ set_of numbers.now size) }
 {
     let atoms = atoms_of(alloc, size, numbers)?;
     let state = State::of(alloc, &atoms, size)?;
     Ok(state)
 }
 
-fn act_of(alloc: Global, size: u32, row: &Row) -> Result<Act, Fail>
-    ensures { IfOk result (λ act. IsAct size act) }
+pub(crate) fn act_of(alloc: Global, size: u32, row: &Row) -> Result<Act, Fail>
+    ensures fits { IfOk result (λ act. IsAct size act) }
+    ensures value { IfOk result (λ act. (act.pre ≡ row.now.pre.now) × (act.add ≡ row.now.add.now) × (act.del ≡ row.now.del.now)) }
 {
     let pre = atoms_of(alloc, size, row.pre)?;
     let add = atoms_of(alloc, size, row.add)?;
@@ -86,6 +89,7 @@ pub(crate) fn task_of(
     acts: Acts,
 ) -> Result<Task, Fail>
     requires { All (IsAct size) acts }
+    ensures { IfOk result (λ task. task ≡ record { atoms = size; init = set_of init.now size; goals = goals.now; acts = acts }) }
 {
     if size > 65536 || acts.as_slice().len() > 1048576 {
         return Err(Fail::new("a task above its limits"));

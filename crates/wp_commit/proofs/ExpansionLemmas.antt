@@ -463,14 +463,14 @@ module _ (task : PlanningTask) (settings : Settings) (s : Searched) (tables : No
 -- an expansion that was evaluated is such a one
 pub in_hand : (task : PlanningTask) (s : Searched) (tables : NoveltyTables) (number : ℕ) (x : Expansion) → ExpansionLaws →
     (e : IsExpansionOf task s tables number x) →
-    IsEvaluatedAt task s tables number e.node (brood_of task s.nodes e.node) x.children.items x.pairs.items
+    IsEvaluatedAt task s tables number e.children.node (brood_of task s.nodes e.children.node) x.children.items x.pairs.items
 in_hand task s tables number x law e = record {
   law = law;
-  linked = e.linked;
-  there = e.there;
-  named = e.named;
-  tracked = e.tracked;
+  linked = e.children.linked;
+  there = e.children.there;
+  named = e.children.named;
+  tracked = e.children.tracked;
   brood_is = refl;
-  children_is = e.unseen_are;
-  pairs_is = e.pairs_are;
+  children_is = e.children.unseen_are;
+  pairs_is = e.pairs.all;
 }

@@ -1,10 +1,12 @@
 pub mod BirthLemmas
 pub mod ConditionLemmas
+pub mod CountedLemmas
 pub mod EndLemmas
 pub mod EvaluationLemmas
 pub mod ExpansionLemmas
 pub mod KeepLemmas
 pub mod LatestLemmas
+pub mod LendingLemmas
 pub mod MarkingLemmas
 pub mod NewbornLemmas
 pub mod PairLemmas

@@ -3,8 +3,9 @@ use Rattle.std.proofs.Common.{◌≡◌, ◌≢◌, ◌<◌, ◌++◌, ℕ, fals
 use Rattle.std.specs.List.{All}
 use Rattle.std.proofs.Math.Seq.{take-append_seam}
 use Rattle.std.proofs.lemmas.List.{ext_get_or, get_or-map, length-map}
-use Rattle.wp_tuples.specs.Placing.{Placing}
 use Rattle.wp_task.specs.Task.{PlanningTask}
+use Rattle.wp_novel.specs.declared.birth.Pair.{Pair}
+use Rattle.wp_novel.specs.NoveltyTables.{HomeView}
 use Rattle.wp_novel.specs.Jobs.{JobView, worked_job}
 use Rattle.wp_nodes.specs.KeptNodes.{Keeping}
 use Rattle.wp_ahead.specs.declared.job.Outcome.TheVariants.{NotWorked, Made, Refused}
@@ -12,12 +13,12 @@ use Rattle.wp_ahead.specs.Jobs.{Job, job_brood, IsJobOf, IsWorked}
 use Rattle.wp_ahead.specs.Laws.{WorkFits}
 use Rattle.wp_commit.specs.Phases.{AreWorked, AreMade}
 
-pub each_worked : (index : Placing) (jobs worked : List JobView) → length worked ≡ length jobs →
-    ((i : ℕ) (d : JobView) → i < length jobs → get_or worked i d ≡ worked_job index (get_or jobs i d)) → worked ≡ map (worked_job index) jobs
-each_worked index jobs worked count each =
+pub each_worked : (homes : List (Pair × HomeView)) (jobs worked : List JobView) → length worked ≡ length jobs →
+    ((i : ℕ) (d : JobView) → i < length jobs → get_or worked i d ≡ worked_job homes (get_or jobs i d)) → worked ≡ map (worked_job homes) jobs
+each_worked homes jobs worked count each =
     let none : JobView = record { births = []; passes = []; worked = false } in
-    ext_get_or none worked (map (worked_job index) jobs) (count ∙ sym (length-map jobs (worked_job index)))
-    (λ i within. let inside : i < length jobs = omega arith in each i none inside ∙ sym (get_or-map (worked_job index) jobs i none none inside))
+    ext_get_or none worked (map (worked_job homes) jobs) (count ∙ sym (length-map jobs (worked_job homes)))
+    (λ i within. let inside : i < length jobs = omega arith in each i none inside ∙ sym (get_or-map (worked_job homes) jobs i none none inside))
 
 -- jobs of kept nodes that were worked have the broods of these nodes, or none
 pub are-made : WorkFits → (task : PlanningTask) (nodes : Keeping) (old new : List Job) → All (IsJobOf nodes) old → AreWorked task old new → AreMade task nodes new

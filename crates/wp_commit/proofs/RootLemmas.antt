@@ -17,7 +17,7 @@ use Rattle.wp_nodes.specs.KeptNodes.{Keeping}
 use Rattle.wp_plain.specs.declared.settings.Settings.{Settings}
 use Rattle.wp_plain.specs.Nodes.{Node}
 use Rattle.wp_plain.specs.Pairs.{exceeds}
-use Rattle.wp_plain.specs.Expansion.{path_counters, generated_at, root_of}
+use Rattle.wp_plain.specs.Expansion.{path_counters, generated_at, root_node}
 use Rattle.wp_plain.specs.Explored.{track_at}
 use Rattle.wp_plain.specs.Run.{opening}
 use Rattle.wp_plain.proofs.ListLemmas.{has_pair-from_there}
@@ -91,7 +91,7 @@ module _ (task : PlanningTask) (settings : Settings) (counts : MarksCount) (tabl
       (λ j. (let x : Generated = record { number = 0; counters = (counters.unmet j, counters.relaxed j); state = state } in x))
       ∙ ap (generated_at (path_counters task) [] 0) alone.state_is
 
-  node_is : ◌≡◌ {A = Node} (record { generated = root_birth state mark; w = w; kept = true; waits = true }) (root_of task settings)
+  node_is : ◌≡◌ {A = Node} (record { generated = root_birth state mark; w = w; kept = true; waits = true }) (root_node task settings)
   node_is =
       let novelty = alone.w_is ∙ (λ j. novelty_of settings.width (generated_is j ∷ []) (generated_is j)) in
       λ j. (let n : Node = record { generated = generated_is j; w = novelty j; kept = true; waits = true } in n)
@@ -122,7 +122,7 @@ module _ (task : PlanningTask) (settings : Settings) (counts : MarksCount) (tabl
 
   root_waits : AreWaiting queue (opening task settings).nodes
   root_waits =
-      let root = root_of task settings in
+      let root = root_node task settings in
       let at_root : waiting w mark.g 0 ≡ waiting root.w root.generated.counters.0 root.generated.number =
       λ j. waiting (node_is j).w (node_is j).generated.counters.0 (node_is j).generated.number in
       record {

@@ -3,6 +3,7 @@ use Rattle.std.specs.Prelude.{◌≡◌, ◌+◌, ◌^◌, ◌<◌, ◌≤◌, �
 use Rattle.wp_task.specs.declared.acts.Act.{Act}
 use Rattle.wp_task.specs.Task.{PlanningTask, act_at, result_of}
 use Rattle.wp_count.specs.declared.brood.Child.{Child}
+use Rattle.wp_novel.specs.declared.birth.Pair.{Pair}
 use Rattle.wp_novel.specs.NoveltyTables.{NoveltyTables, counters_of, open_pairs, IsAtHome}
 use Rattle.wp_novel.specs.StandsFor.{StandsFor}
 use Rattle.wp_nodes.specs.declared.kept.Kept.{Kept}
@@ -37,19 +38,27 @@ pub record AreNoRepeats (seen : List (List Bool)) (brood children : List Child) 
   pub unseen_are : children ≡ unseen (λ c. c.state) seen brood
   pub repeats_are : repeats + length children ≡ length brood
 
--- the children of the kept node of the number that are no repeats, how many are, and the pairs of counters that are to be opened
-pub record IsExpansionOf (task : PlanningTask) (s : Searched) (tables : NoveltyTables) (number : ℕ) (x : Expansion) : Type 0 where
+-- the children of the kept node of the number that are no repeats, and how many are
+pub record AreChildrenAt (task : PlanningTask) (s : Searched) (number : ℕ) (children : List Child) (repeats : ℕ) : Type 0 where
   pub node : Kept
   pub found : node_of s.nodes.kept number ≡ Some node
   pub there : Contains s.nodes.kept node
   pub named : node.number ≡ number
   pub tracked : node.mark.track < length s.nodes.tracks
   pub linked : AreLinked s.nodes
-  pub unseen_are : x.children.items ≡ unseen (λ c. c.state) (states_of s.nodes.kept) (brood_of task s.nodes node)
-  pub repeats_are : x.repeats + length x.children.items ≡ length (brood_of task s.nodes node)
+  pub unseen_are : children ≡ unseen (λ c. c.state) (states_of s.nodes.kept) (brood_of task s.nodes node)
+  pub repeats_are : repeats + length children ≡ length (brood_of task s.nodes node)
   pub few : length (brood_of task s.nodes node) ≤ length task.acts
-  pub pairs_are : open_pairs tables ++ map counters_of x.pairs.items ≡ fold with_pair (open_pairs tables) (map child_pair x.children.items)
-  pub unopened : AreUnopened (open_pairs tables) (map counters_of x.pairs.items)
+
+-- the pairs of counters of these children that are not open, each once
+pub record ArePairsToOpen (tables : NoveltyTables) (children : List Child) (pairs : List Pair) : Type 0 where
+  pub all : open_pairs tables ++ map counters_of pairs ≡ fold with_pair (open_pairs tables) (map child_pair children)
+  pub unopened : AreUnopened (open_pairs tables) (map counters_of pairs)
+
+-- the expansion of the kept node of the number
+pub record IsExpansionOf (task : PlanningTask) (s : Searched) (tables : NoveltyTables) (number : ℕ) (x : Expansion) : Type 0 where
+  pub children : AreChildrenAt task s number x.children.items x.repeats
+  pub pairs : ArePairsToOpen tables x.children.items x.pairs.items
 
 -- ---- numbers and novelties
 -- the children have the next numbers, and their novelties among all nodes; the tables stand for all of them, and have the pairs

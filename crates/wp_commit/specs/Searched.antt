@@ -21,12 +21,9 @@ use Rattle.wp_plain.specs.Nodes.{Node, Path, path_at, generated_in}
 use Rattle.wp_plain.specs.Pairs.{pairs_in, exceeds}
 use Rattle.wp_plain.specs.Run.{Moment, counts_of, run}
 use Rattle.wp_plain.specs.Explored.{track_at}
-use Rattle.wp_plain.specs.Steps.{Asked}
 use Rattle.wp_plain.specs.Numbers.{IsNumbered}
-use Rattle.wp_ahead.specs.KeptBroods.{KeptBroods, Fit}
 use Rattle.wp_commit.specs.declared.searched.Searched.{Searched}
 use Rattle.wp_commit.specs.Latest.{AreBirths}
-use Rattle.wp_commit.specs.Phases.{Calls, WorksAll}
 
 -- ---- kept nodes
 -- a kept node as it was generated
@@ -115,23 +112,23 @@ pub record IsTakenAt (task : PlanningTask) (settings : Settings) (s : Searched) 
   pub named : node.generated.number ≡ number
 
 -- ---- what a call may ask
--- what a run needs throughout was made for what is asked, so many tuples have places, the jobs of a phase are all worked, and the broods
--- that were made ahead are those of their nodes
-pub record IsRunOf {W : Type 0} (calls : Calls W) (work : W) (run asked : Asked) (tuples : ℕ) (nodes : Keeping) (broods : KeptBroods) : Type 0 where
-  pub same : run ≡ asked
-  pub all : run.tuples ≡ tuples
-  pub works : WorksAll calls work
-  pub fit : Fit run.task nodes broods
-
-abbrev pub HoldsAtSome : PlanningTask → Settings → Searched → NoveltyTables → Type 0
-HoldsAtSome task settings s tables = (m : Moment) × HoldsAt task settings s tables m
+-- at some moment the search stands for it, or has taken the node of the number; and so for the task, or for some task
+abbrev pub HoldsSomewhere : Searched → Type 0
+HoldsSomewhere s = (task : PlanningTask) × (settings : Settings) × (tables : NoveltyTables) × (m : Moment) × HoldsAt task settings s tables m
 
 abbrev pub IsTakenAtSome : PlanningTask → Settings → Searched → NoveltyTables → ℕ → Type 0
 IsTakenAtSome task settings s tables number = (m : Moment) × (node : Node) × IsTakenAt task settings s tables m node number
 
--- the counts are those of each moment that the search stands for
-abbrev pub AreCountsOf : PlanningTask → Settings → Searched → NoveltyTables → Counts → Type 0
-AreCountsOf task settings s tables counts = (m : Moment) → HoldsAt task settings s tables m → counts ≡ counts_of m
+abbrev pub IsTakenIn : PlanningTask → Searched → ℕ → Type 0
+IsTakenIn task s number = (settings : Settings) × (tables : NoveltyTables) × IsTakenAtSome task settings s tables number
+
+abbrev pub IsTakenSomewhere : Searched → ℕ → Type 0
+IsTakenSomewhere s number = (task : PlanningTask) × IsTakenIn task s number
+
+-- the counts are those of each moment that the search stands for, where so many pairs are open
+abbrev pub AreCountsOf : Searched → ℕ → Counts → Type 0
+AreCountsOf s pairs counts = (task : PlanningTask) (settings : Settings) (tables : NoveltyTables) (m : Moment) →
+    HoldsAt task settings s tables m → pairs ≡ length (open_pairs tables) → counts ≡ counts_of m
 
 -- ---- what a search leaves in the tables
 -- no pair, where the root's own pair wants more words than the limit; else they stand for all numbered nodes of the run

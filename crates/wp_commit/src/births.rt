@@ -1,20 +1,17 @@
 //! The numbers and novelties of the children of an expansion.
 ghost use Rattle.std.specs.Prelude.{◌≡◌, ◌+◌, ◌<◌, ◌^◌, ◌++◌, ℕ, List, false, length, map, All, Contains, IfOk, OnOk, IfSome};
 ghost use Rattle.wp_task.specs.Novelty.{Generated, novelty_of};
-ghost use Rattle.wp_tuples.specs.Placing.{all_placed};
 ghost use Rattle.wp_novel.specs.Births.{nodes_of};
 ghost use Rattle.wp_novel.specs.NoveltyTables.{placed, open_pairs, IsAtHome};
 ghost use Rattle.wp_novel.specs.StandsFor.{StandsFor};
 ghost use Rattle.wp_plain.specs.Explored.{numbered, all_numbered};
-ghost use Rattle.wp_plain.specs.Pairs.{exceeds};
 ghost use Rattle.wp_commit.specs.Newborns.{rest_of, child_with, newborns_of};
 ghost use Rattle.wp_commit.specs.Entering.{IsFresh, StandsForEarlier, CanBeBorn, CanBeAsked};
-ghost use Rattle.wp_commit.specs.Expansions.{IsExpansionOf, IsEnteredOf};
-ghost use Rattle.wp_commit.specs.Searched.{IsTakenAtSome};
 ghost use Rattle.wp_nodes.specs.KeptNodes.{IsKept};
 ghost use Rattle.wp_ahead.specs.KeptBroods.{Fit};
 ghost use Rattle.wp_ahead.specs.Laws.{AreMarked};
-ghost use Rattle.wp_commit.specs.Phases.{WorksAll, AreMade};
+ghost use Rattle.wp_commit.specs.Phases.{AreMade};
+ghost use Rattle.wp_commit.specs.Lending.{CanEnter, HasEntered};
 
 use crate::evaluation::Expansion;
 use crate::fresh::fresh_of;
@@ -24,13 +21,15 @@ use crate::pairs::open_all;
 use crate::run::Run;
 use crate::searched::{Searched, node_at};
 use std::alloc::{AllocError, Global};
+use std::thread::Threads;
 use wp_ahead::{AheadJobs, Broods, jobs_can_be_worked, worked_jobs_fit};
 use wp_count::{Child, counters_are_carried};
+use wp_edge::Gate;
 use wp_nodes::Kept;
-use wp_novel::{Birth, Births, MarkJobs, Pair, Tables, no_tuple_is_old, shared_tuples_are_marked};
+use wp_novel::{Birth, Births, Pair, Tables, no_tuple_is_old, shared_tuples_are_marked};
 use wp_plain::{children_are_numbered, nodes_are_numbered};
 use wp_task::{State, Track};
-use wp_tuples::TupleIndex;
+use wp_tuples::Places;
 
 /// An expansion whose children are numbered: they stand here with their novelties.
 #[derive(Drop)]
@@ -51,26 +50,18 @@ pub(crate) struct Rest {
 /// Opens the pairs of an expansion, which are within the limit of words, numbers its children, marks them in the tables, and
 /// reads their novelties. In the same phase jobs make broods of the first nodes that wait, and are given back. Where memory is refused the
 /// tables are spent.
-pub(crate) fn enter<W: Fn(&Run, &Tables<TupleIndex>, MarkJobs, AheadJobs) -> (MarkJobs, AheadJobs)>(
+pub(crate) fn enter<R: Threads + Sync, P: Places, G: Gate>(
+    rt: &R,
     run: &Run,
-    work: &W,
+    gate: &G,
     searched: &Searched,
-    tables: &mut Tables<TupleIndex>,
+    tables: &mut Tables<P>,
     broods: &mut Broods,
     number: u64,
     expansion: Expansion,
 ) -> Result<(Numbered, AheadJobs), AllocError>
-    requires works { WorksAll W.Fn work.now }
-    requires taken { IsTakenAtSome run.now.task run.now.settings searched.now (placed all_placed tables.old) number }
-    requires evaluated { IsExpansionOf run.now.task searched.now (placed all_placed tables.old) number expansion }
-    requires numbers { searched.now.numbered + length expansion.children.items < 2 ^ 63 }
-    requires few { exceeds run.now.settings.words (length (open_pairs (placed all_placed tables.old)) + length expansion.pairs.items)
-        (all_placed tables.old.index).len ≡ false }
-    requires fit { Fit run.now.task searched.now.nodes broods.old }
-    ensures entered { IfOk result (λ parts. IsEnteredOf run.now.task run.now.settings searched.now (placed all_placed tables.old) number expansion
-        (placed all_placed tables.new) parts.0) }
-    ensures aheads { IfOk result (λ parts. AreMade run.now.task searched.now.nodes parts.1) }
-    ensures fit { OnOk result (Fit run.now.task searched.now.nodes broods.new) }
+    requires { CanEnter run.now searched.now (placed P.places tables.old) broods.old number expansion }
+    ensures { IfOk result (HasEntered run.now searched.now (placed P.places tables.old) number expansion (placed P.places tables.new) broods.new) }
 {
     counters_are_carried();
     children_are_numbered();
@@ -80,41 +71,41 @@ pub(crate) fn enter<W: Fn(&Run, &Tables<TupleIndex>, MarkJobs, AheadJobs) -> (Ma
         repeats,
         pairs,
     } = expansion;
-    let parent = node_at(run, searched, tables, number);
+    let parent = node_at(searched, number);
     open_all(tables, pairs)?;
-    let (newborns, aheads) = number_all(run, work, searched, parent, tables, broods, children)?;
+    let (newborns, aheads) = number_all(rt, run, gate, searched, parent, tables, broods, children)?;
     Ok((Numbered { newborns, repeats }, aheads))
 }
 
 /// Numbers the children of the node `parent`, marks them in the tables, and reads their novelties: all are marked before the first of
 /// them is asked for, since a later one makes no tuple old for it. Beside the marks broods of nodes that wait are made. Where memory is
 /// refused the tables are spent.
-fn number_all<W: Fn(&Run, &Tables<TupleIndex>, MarkJobs, AheadJobs) -> (MarkJobs, AheadJobs)>(
+fn number_all<R: Threads + Sync, P: Places, G: Gate>(
+    rt: &R,
     run: &Run,
-    work: &W,
+    gate: &G,
     searched: &Searched,
     parent: &Kept,
-    tables: &mut Tables<TupleIndex>,
+    tables: &mut Tables<P>,
     broods: &mut Broods,
     children: Vec<Child>,
 ) -> Result<(Vec<Newborn>, AheadJobs), AllocError>
-    requires works { WorksAll W.Fn work.now }
-    requires home { IsAtHome (placed all_placed tables.old) }
-    requires ready { All (CanBeBorn (placed all_placed tables.old)) children.items }
+    requires home { IsAtHome (placed P.places tables.old) }
+    requires ready { All (CanBeBorn (placed P.places tables.old)) children.items }
     requires numbers { searched.now.numbered + length children.items < 2 ^ 63 }
     requires later { IfSome tables.old.last (λ last. last < searched.now.numbered) }
-    requires earlier { StandsForEarlier searched.now parent.now (placed all_placed tables.old) }
+    requires earlier { StandsForEarlier searched.now parent.now (placed P.places tables.old) }
     requires waiting { All (λ x. IsKept searched.now.nodes.kept x.number) searched.now.queue }
     requires marked { AreMarked run.now.task searched.now.nodes }
     requires fit { Fit run.now.task searched.now.nodes broods.old }
-    ensures newborns { IfOk result (λ parts. (nodes : List Generated) → StandsFor (placed all_placed tables.old) nodes →
-        parts.0.items ≡ newborns_of (all_placed tables.old.index).width
+    ensures newborns { IfOk result (λ parts. (nodes : List Generated) → StandsFor (placed P.places tables.old) nodes →
+        parts.0.items ≡ newborns_of (P.places tables.old.index).width
         (nodes ++ all_numbered searched.now.numbered children.items) searched.now.numbered children.items) }
-    ensures stands { OnOk result ((nodes : List Generated) → StandsFor (placed all_placed tables.old) nodes →
-        StandsFor (placed all_placed tables.new) (nodes ++ all_numbered searched.now.numbered children.items)) }
-    ensures home { OnOk result (IsAtHome (placed all_placed tables.new)) }
-    ensures pairs { OnOk result (open_pairs (placed all_placed tables.new) ≡ open_pairs (placed all_placed tables.old)) }
-    ensures index { OnOk result (all_placed tables.new.index ≡ all_placed tables.old.index) }
+    ensures stands { OnOk result ((nodes : List Generated) → StandsFor (placed P.places tables.old) nodes →
+        StandsFor (placed P.places tables.new) (nodes ++ all_numbered searched.now.numbered children.items)) }
+    ensures home { OnOk result (IsAtHome (placed P.places tables.new)) }
+    ensures pairs { OnOk result (open_pairs (placed P.places tables.new) ≡ open_pairs (placed P.places tables.old)) }
+    ensures index { OnOk result (P.places tables.new.index ≡ P.places tables.old.index) }
     ensures limit { OnOk result (tables.new.limit ≡ tables.old.limit) }
     ensures aheads { IfOk result (λ parts. AreMade run.now.task searched.now.nodes parts.1) }
     ensures fit { OnOk result (Fit run.now.task searched.now.nodes broods.new) }
@@ -133,7 +124,7 @@ fn number_all<W: Fn(&Run, &Tables<TupleIndex>, MarkJobs, AheadJobs) -> (MarkJobs
         &searched.nodes,
         run.settings.ahead,
     )?;
-    let (births, aheads) = mark_all(run, work, tables, births, aheads)?;
+    let (births, aheads) = mark_all(rt, run, gate, tables, births, aheads)?;
     let newborns = newborns_of(run.alloc, tables, births.into_vec(), rests)?;
     Ok((newborns, aheads))
 }
@@ -189,19 +180,19 @@ fn birth_of(
 }
 
 /// The children with their numbers and novelties, once they are marked as these births.
-fn newborns_of(
+fn newborns_of<P: Places>(
     alloc: Global,
-    tables: &mut Tables<TupleIndex>,
+    tables: &mut Tables<P>,
     births: Vec<Birth>,
     rests: Vec<Rest>,
 ) -> Result<Vec<Newborn>, AllocError>
     requires parts { length rests.items ≡ length births.items }
-    requires home { IsAtHome (placed all_placed tables.old) }
-    requires asked { All (CanBeAsked (placed all_placed tables.old)) births.items }
+    requires home { IsAtHome (placed P.places tables.old) }
+    requires asked { All (CanBeAsked (placed P.places tables.old)) births.items }
     ensures newborns { IfOk result (λ newborns. (nodes : List Generated) (first : ℕ) (children : List Child) →
         nodes_of births.items ≡ all_numbered first children → rests.items ≡ map rest_of children →
-        StandsFor (placed all_placed tables.old) (nodes ++ all_numbered first children) →
-        newborns.items ≡ newborns_of (all_placed tables.old.index).width (nodes ++ all_numbered first children) first children) }
+        StandsFor (placed P.places tables.old) (nodes ++ all_numbered first children) →
+        newborns.items ≡ newborns_of (P.places tables.old.index).width (nodes ++ all_numbered first children) first children) }
     ensures same { tables.new ≡ tables.old }
 {
     let mut newborns = Vec::with_capacity(alloc, births.len())?;
@@ -217,12 +208,12 @@ fn newborns_of(
 }
 
 /// The child of a birth, with its number and novelty.
-fn newborn_of(tables: &mut Tables<TupleIndex>, birth: Birth, rest: Rest) -> Newborn
-    requires home { IsAtHome (placed all_placed tables.old) }
-    requires asked { CanBeAsked (placed all_placed tables.old) birth }
+fn newborn_of<P: Places>(tables: &mut Tables<P>, birth: Birth, rest: Rest) -> Newborn
+    requires home { IsAtHome (placed P.places tables.old) }
+    requires asked { CanBeAsked (placed P.places tables.old) birth }
     ensures number { result.number ≡ birth.node.number }
-    ensures novelty { (births : List Generated) → StandsFor (placed all_placed tables.old) births → Contains births birth.node →
-        result.w ≡ novelty_of (all_placed tables.old.index).width births birth.node }
+    ensures novelty { (births : List Generated) → StandsFor (placed P.places tables.old) births → Contains births birth.node →
+        result.w ≡ novelty_of (P.places tables.old.index).width births birth.node }
     ensures child { result.child ≡ child_with birth.node rest }
     ensures same { tables.new ≡ tables.old }
 {

@@ -2,15 +2,12 @@
 ghost use Rattle.std.specs.Prelude.{◌≡◌, ◌<◌, length, map, All, IfOk, IfSome, OnOk};
 ghost use Rattle.wp_count.specs.Broods.{child_of, IsCountOn};
 ghost use Rattle.wp_relax.specs.Workspace.{room_for};
-ghost use Rattle.wp_tuples.specs.Placing.{all_placed};
-ghost use Rattle.wp_novel.specs.NoveltyTables.{placed};
-ghost use Rattle.wp_commit.specs.Searched.{IsTakenAtSome};
+ghost use Rattle.wp_commit.specs.Searched.{IsTakenIn};
 ghost use Rattle.wp_ahead.specs.Jobs.{track_of};
 ghost use Rattle.wp_ahead.specs.KeptBroods.{Fit};
-ghost use Rattle.wp_commit.specs.Expansions.{states_of, brood_of, AreNoRepeats, IsExpansionOf};
+ghost use Rattle.wp_commit.specs.Expansions.{states_of, brood_of, AreNoRepeats, AreChildrenAt};
 
 use crate::made::made_children;
-use crate::pairs::new_pairs;
 use crate::run::Run;
 use crate::searched::{Searched, node_at};
 use crate::unseen::{Reached, unseen};
@@ -18,11 +15,10 @@ use std::alloc::{AllocError, Global};
 use wp_ahead::Broods;
 use wp_count::{Brood, Child, evaluate};
 use wp_nodes::{Kept, Nodes};
-use wp_novel::{Pair, Tables};
+use wp_novel::Pair;
 use wp_relax::Workspace;
 use wp_succ::Successors;
 use wp_task::{Mark, Task, Track};
-use wp_tuples::TupleIndex;
 
 /// An expansion of a kept node as it is evaluated: the children that are no repeats, the number of repeats, and the
 /// counter pairs of these children that are not open, each once.
@@ -33,29 +29,23 @@ pub(crate) struct Expansion {
     pub pairs: Vec<Pair>,
 }
 
-/// Evaluates the expansion of the node that was taken. A brood that was made ahead of it is used, and is then gone.
-pub(crate) fn expansion_of(
+/// The children of the node that was taken which are no repeats, and how many are. A brood that was made ahead of it is used, and
+/// is then gone.
+pub(crate) fn children_at(
     run: &mut Run,
     searched: &Searched,
-    tables: &Tables<TupleIndex>,
     broods: &mut Broods,
     number: u64,
-) -> Result<Expansion, AllocError>
-    requires taken { IsTakenAtSome run.old.task run.old.settings searched.now (placed all_placed tables.now) number }
+) -> Result<(Vec<Child>, u64), AllocError>
+    requires taken { IsTakenIn run.old.task searched.now number }
     requires fit { Fit run.old.task searched.now.nodes broods.old }
-    ensures evaluated { IfOk result (IsExpansionOf run.old.task searched.now (placed all_placed tables.now) number) }
+    ensures children { IfOk result (λ parts. AreChildrenAt run.old.task searched.now number parts.0.items parts.1) }
     ensures same { OnOk result (run.new ≡ run.old) }
     ensures fit { OnOk result (Fit run.old.task searched.now.nodes broods.new) }
 {
-    let node = node_at(run, searched, tables, number);
+    let node = node_at(searched, number);
     let made = broods.take(number);
-    let (children, repeats) = without_repeats(run, &searched.nodes, node, made)?;
-    let pairs = new_pairs(run.alloc, tables, &children)?;
-    Ok(Expansion {
-        children,
-        repeats,
-        pairs,
-    })
+    without_repeats(run, &searched.nodes, node, made)
 }
 
 /// The children of a node that are no repeats, and how many are: those of its brood, where one was made, or evaluated now.

@@ -14,6 +14,7 @@ mod evaluation;
 mod fresh;
 mod keep;
 mod latest;
+mod lent;
 mod made;
 mod marking;
 mod newborn;
@@ -25,4 +26,4 @@ mod store;
 mod telling;
 mod unseen;
 
-pub use best_first::{search, search_in};
+pub use best_first::{search, search_over};

@@ -3,13 +3,12 @@
 ghost use Rattle.std.specs.Prelude.{◌≡◌, ◌<◌, ◌^◌, ◌++◌, List, false, length, map, All, IfOk, IfSome, OnOk};
 ghost use Rattle.std.specs.List.{AllPairs};
 ghost use Rattle.wp_task.specs.Novelty.{Generated};
-ghost use Rattle.wp_tuples.specs.Placing.{all_placed};
 ghost use Rattle.wp_novel.specs.Births.{nodes_of};
 ghost use Rattle.wp_novel.specs.NoveltyTables.{placed, open_pairs, IsAtHome};
 ghost use Rattle.wp_novel.specs.StandsFor.{StandsFor};
 ghost use Rattle.wp_novel.specs.Jobs.{worked_job, IsReady, IsJobOf};
 ghost use Rattle.wp_ahead.specs.Jobs.{CanWork, IsWorked};
-ghost use Rattle.wp_commit.specs.Phases.{WorksAll, AreWorked};
+ghost use Rattle.wp_commit.specs.Phases.{AreWorked};
 
 use crate::run::Run;
 use std::alloc::AllocError;
@@ -17,55 +16,53 @@ use std::thread::{Threads, for_each_mut, join_mut};
 use wp_ahead::{AheadJob, AheadJobs, work};
 use wp_edge::Gate;
 use wp_novel::{Births, MarkJob, MarkJobs, Tables, worked_jobs_are_out};
-use wp_tuples::TupleIndex;
+use wp_tuples::Places;
 
 /// The most jobs that a phase has, so that each has a thread of its own.
 const MOST_WORKERS: usize = 64;
 
 /// Marks the births in the tables and gives them back, and works the jobs that make broods in the same phase. What was marked is read
 /// by nobody before all jobs are back, so the order in which they mark plays no part. Where memory is refused no job was dealt.
-pub(crate) fn mark_all<
-    W: Fn(&Run, &Tables<TupleIndex>, MarkJobs, AheadJobs) -> (MarkJobs, AheadJobs),
->(
+pub(crate) fn mark_all<R: Threads + Sync, P: Places, G: Gate>(
+    rt: &R,
     run: &Run,
-    work: &W,
-    tables: &mut Tables<TupleIndex>,
+    gate: &G,
+    tables: &mut Tables<P>,
     births: Births,
     aheads: AheadJobs,
 ) -> Result<(Births, AheadJobs), AllocError>
-    requires works { WorksAll W.Fn work.now }
-    requires home { IsAtHome (placed all_placed tables.old) }
-    requires ready { All (IsReady (placed all_placed tables.old)) births }
+    requires home { IsAtHome (placed P.places tables.old) }
+    requires ready { All (IsReady (placed P.places tables.old)) births }
     requires later { IfSome tables.old.last (λ last. All (λ b. last < b.node.number) births) }
     requires rising { AllPairs (λ x y. x.node.number < y.node.number) births }
     requires aheads { All (CanWork run.now.task) aheads }
     ensures births { IfOk result (λ parts. parts.0 ≡ births) }
     ensures aheads { IfOk result (λ parts. AreWorked run.now.task aheads parts.1) }
-    ensures home { OnOk result (IsAtHome (placed all_placed tables.new)) }
-    ensures pairs { OnOk result (open_pairs (placed all_placed tables.new) ≡ open_pairs (placed all_placed tables.old)) }
-    ensures index { OnOk result ((all_placed tables.new.index) ≡ (all_placed tables.old.index)) }
+    ensures home { OnOk result (IsAtHome (placed P.places tables.new)) }
+    ensures pairs { OnOk result (open_pairs (placed P.places tables.new) ≡ open_pairs (placed P.places tables.old)) }
+    ensures index { OnOk result ((P.places tables.new.index) ≡ (P.places tables.old.index)) }
     ensures limit { OnOk result (tables.new.limit ≡ tables.old.limit) }
-    ensures stands { OnOk result ((before : List Generated) → StandsFor (placed all_placed tables.old) before → StandsFor (placed all_placed tables.new) (before ++ nodes_of births)) }
+    ensures stands { OnOk result ((before : List Generated) → StandsFor (placed P.places tables.old) before → StandsFor (placed P.places tables.new) (before ++ nodes_of births)) }
 {
     // By this law all jobs that are worked can be collected.
     worked_jobs_are_out();
     let marks = tables.deal(births, run.settings.workers)?;
-    let (marks, aheads) = work(run, tables, marks, aheads);
+    let (marks, aheads) = work_all(rt, run, gate, tables, marks, aheads);
     Ok((tables.collect(marks), aheads))
 }
 
 /// Works the jobs of a phase.
-pub(crate) fn work_all<R: Threads + Sync, G: Gate>(
+fn work_all<R: Threads + Sync, P: Places, G: Gate>(
     rt: &R,
     run: &Run,
-    tables: &Tables<TupleIndex>,
     gate: &G,
+    tables: &Tables<P>,
     marks: MarkJobs,
     aheads: AheadJobs,
 ) -> (MarkJobs, AheadJobs)
-    requires marks { All (IsJobOf (placed all_placed tables.now) false) marks }
+    requires marks { All (IsJobOf (placed P.places tables.now) false) marks }
     requires aheads { All (CanWork run.now.task) aheads }
-    ensures marks { result.0 ≡ map (worked_job (all_placed tables.now.index)) marks }
+    ensures marks { result.0 ≡ map (worked_job tables.now.homes) marks }
     ensures aheads { AreWorked run.now.task aheads result.1 }
 {
     let mut marks = marks.into_vec();
@@ -73,8 +70,8 @@ pub(crate) fn work_all<R: Threads + Sync, G: Gate>(
     run_phase(
         rt,
         run,
-        tables,
         gate,
+        tables,
         marks.as_mut_slice(),
         aheads.as_mut_slice(),
     );
@@ -82,28 +79,28 @@ pub(crate) fn work_all<R: Threads + Sync, G: Gate>(
 }
 
 /// Works the jobs of both kinds beside each other. Where there are none of one kind no thread is started for it.
-fn run_phase<R: Threads + Sync, G: Gate>(
+fn run_phase<R: Threads + Sync, P: Places, G: Gate>(
     rt: &R,
     run: &Run,
-    tables: &Tables<TupleIndex>,
     gate: &G,
+    tables: &Tables<P>,
     marks: &mut [MarkJob],
     aheads: &mut [AheadJob],
 )
-    requires marks { All (IsJobOf (placed all_placed tables.now) false) marks.old }
+    requires marks { All (IsJobOf (placed P.places tables.now) false) marks.old }
     requires aheads { All (CanWork run.now.task) aheads.old }
-    ensures marks { marks.new ≡ map (worked_job (all_placed tables.now.index)) marks.old }
+    ensures marks { marks.new ≡ map (worked_job tables.now.homes) marks.old }
     ensures aheads { AreWorked run.now.task aheads.old aheads.new }
 {
     if is_some_empty(marks, aheads) {
-        run_marks(rt, tables, gate, marks);
+        run_marks(rt, gate, tables, marks);
         run_aheads(rt, run, gate, aheads);
         return;
     }
     let mut one = ||
-        requires { All (IsJobOf (placed all_placed tables.now) false) marks.now }
-        ensures { marks.exit.now ≡ map (worked_job (all_placed tables.entry.now.index)) marks.entry.now }
-    { run_marks(rt, tables, gate, marks) };
+        requires { All (IsJobOf (placed P.places tables.now) false) marks.now }
+        ensures { marks.exit.now ≡ map (worked_job tables.entry.now.homes) marks.entry.now }
+    { run_marks(rt, gate, tables, marks) };
     let mut other = ||
         requires { All (CanWork run.now.task) aheads.now }
         ensures { AreWorked run.entry.now.task aheads.entry.now aheads.exit.now }
@@ -117,22 +114,22 @@ fn is_some_empty(marks: &[MarkJob], aheads: &[AheadJob]) -> bool {
 }
 
 /// Works each job that marks, beside each other where there are more than one; a single one runs here, and no thread is started.
-fn run_marks<R: Threads + Sync, G: Gate>(
+fn run_marks<R: Threads + Sync, P: Places, G: Gate>(
     rt: &R,
-    tables: &Tables<TupleIndex>,
     gate: &G,
+    tables: &Tables<P>,
     jobs: &mut [MarkJob],
 )
-    requires ready { All (IsJobOf (placed all_placed tables.now) false) jobs.old }
-    ensures { jobs.new ≡ map (worked_job (all_placed tables.now.index)) jobs.old }
+    requires ready { All (IsJobOf (placed P.places tables.now) false) jobs.old }
+    ensures { jobs.new ≡ map (worked_job tables.now.homes) jobs.old }
 {
     for_each_mut(
         rt,
         jobs,
         MOST_WORKERS,
         &|_: usize, job: &mut MarkJob|
-            requires { IsJobOf (placed all_placed tables.now) false job.now }
-            ensures { job.exit.now ≡ worked_job (all_placed tables.entry.now.index) job.entry.now }
+            requires { IsJobOf (placed P.places tables.now) false job.now }
+            ensures { job.exit.now ≡ worked_job tables.entry.now.homes job.entry.now }
         { tables.work(job, gate) },
     );
 }

@@ -1,18 +1,14 @@
 //! What the search keeps besides the novelty tables.
 ghost use Rattle.std.specs.Prelude.{◌≡◌, ◌<◌, Some, length, Contains};
 ghost use Rattle.wp_nodes.specs.KeptNodes.{node_of, AreLinked};
-ghost use Rattle.wp_tuples.specs.Placing.{all_placed};
-ghost use Rattle.wp_novel.specs.NoveltyTables.{placed};
-ghost use Rattle.wp_commit.specs.Searched.{HoldsAtSome, IsTakenAtSome, AreCountsOf};
+ghost use Rattle.wp_commit.specs.Searched.{HoldsSomewhere, IsTakenSomewhere, AreCountsOf};
 
 use crate::latest::Latest;
-use crate::run::Run;
 use indexmap::IndexMap;
 use wp_nodes::{Kept, Nodes};
-use wp_novel::{Pair, Tables};
+use wp_novel::Pair;
 use wp_plain::Counts;
 use wp_queue::Queue;
-use wp_tuples::TupleIndex;
 
 /// The search so far. Of a pruned node nothing is kept here, unless it is the latest birth of its pair: it has its number, and its
 /// tuples are marked in the tables.
@@ -28,13 +24,8 @@ pub(crate) struct Searched {
 }
 
 /// The node that was taken.
-pub(crate) fn node_at<'a>(
-    run: &Run,
-    searched: &'a Searched,
-    tables: &Tables<TupleIndex>,
-    number: u64,
-) -> &'a Kept
-    requires taken { IsTakenAtSome run.now.task run.now.settings searched.now (placed all_placed tables.now) number }
+pub(crate) fn node_at(searched: &Searched, number: u64) -> &Kept
+    requires taken { IsTakenSomewhere searched.now number }
     ensures node { node_of searched.now.nodes.kept number ≡ Some result.now }
     ensures there { Contains searched.now.nodes.kept result.now }
     ensures named { result.now.number ≡ number }
@@ -47,10 +38,10 @@ pub(crate) fn node_at<'a>(
     }
 }
 
-/// What was counted.
-pub(crate) fn counts_of(run: &Run, searched: &Searched, tables: &Tables<TupleIndex>) -> Counts
-    requires { HoldsAtSome run.now.task run.now.settings searched.now (placed all_placed tables.now) }
-    ensures { AreCountsOf run.now.task run.now.settings searched.now (placed all_placed tables.now) result }
+/// What was counted, where so many pairs are open.
+pub(crate) fn counts_of(searched: &Searched, pairs: u64) -> Counts
+    requires { HoldsSomewhere searched.now }
+    ensures { AreCountsOf searched.now pairs result }
 {
     Counts {
         expanded: searched.expanded,
@@ -58,6 +49,6 @@ pub(crate) fn counts_of(run: &Run, searched: &Searched, tables: &Tables<TupleInd
         kept: searched.kept,
         pruned: searched.numbered - searched.kept,
         repeats: searched.repeats,
-        pairs: tables.pairs(),
+        pairs,
     }
 }

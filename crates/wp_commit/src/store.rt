@@ -1,55 +1,74 @@
-//! The fast store: kept nodes by their states, an open list, and novelty tables.
+//! The fast store: kept nodes by their states, and an open list. The novelty tables are lent to it.
 
-use crate::births::enter;
-use crate::evaluation::{Expansion, expansion_of};
+use crate::births::Numbered;
+use crate::evaluation::{Expansion, children_at};
 use crate::keep::keep_expansion;
+use crate::lent::Shown;
 use crate::run::Run;
 use crate::searched::{Searched, counts_of, node_at};
 use crate::telling::told_of;
 use std::alloc::{AllocError, Global};
+use std::marker::PhantomData;
 use wp_ahead::{AheadJobs, Broods, broods_go_on_fitting};
-use wp_count::counters_are_carried;
-use wp_novel::{MarkJobs, Tables};
+use wp_count::{Child, counters_are_carried};
+use wp_novel::Pair;
 use wp_plain::{BestFirst, Counts, children_are_numbered, first_is_least, nodes_are_numbered};
 use wp_task::Atoms;
-use wp_tuples::TupleIndex;
 use wp_watch::Event;
 
-/// What a run needs throughout, what works the jobs of a phase, what the search keeps, and the broods that were made ahead.
+/// What a run needs throughout, what the search keeps, the broods that were made ahead, and how many pairs are open in the tables. What is
+/// done to the tables is done by `find`, which gives the pairs of children that are to be opened, and by `enter`, which enters an
+/// expansion.
 #[derive(Drop)]
-pub(crate) struct Store<'a, W> {
+pub(crate) struct Store<'a, T, F, E> {
     pub run: Run<'a>,
-    pub work: W,
+    pub find: F,
+    pub enter: E,
     pub searched: Searched,
-    pub tables: Tables<TupleIndex>,
     pub broods: Broods,
+    pub pairs: u64,
+    pub lent: PhantomData<T>,
 }
 
-impl<'a, W: Fn(&Run, &Tables<TupleIndex>, MarkJobs, AheadJobs) -> (MarkJobs, AheadJobs)> BestFirst
-    for Store<'a, W> {
-    ghost use Rattle.wp_commit.specs.Searched.{HoldsAt, StandsAt, IsTakenAt, IsRunOf};
-    ghost use Rattle.wp_tuples.specs.Placing.{all_placed};
-    ghost use Rattle.wp_novel.specs.NoveltyTables.{placed};
+impl<
+    'a,
+    T: Shown,
+    F: Fn(&T, &[Child]) -> Result<Vec<Pair>, AllocError>,
+    E: Fn(
+        &Run,
+        &Searched,
+        &mut T,
+        &mut Broods,
+        u64,
+        Expansion,
+    ) -> Result<(Numbered, AheadJobs), AllocError>,
+> BestFirst for Store<'a, T, F, E> {
+    ghost use Rattle.wp_commit.specs.Searched.{HoldsAt, StandsAt, IsTakenAt};
     ghost use Rattle.wp_commit.specs.Expansions.{IsExpansionOf};
+    ghost use Rattle.wp_commit.specs.Lending.{IsRunOf, WorksOn};
 
     type Expansion = Expansion;
 
-    ghost stands = { λ s asked m. IsRunOf W.Fn s.work s.run asked (all_placed s.tables.index).len s.searched.nodes s.broods × StandsAt s.run.task s.run.settings s.searched (placed all_placed s.tables) m };
+    type Lent = T;
 
-    ghost holds = { λ s asked m. IsRunOf W.Fn s.work s.run asked (all_placed s.tables.index).len s.searched.nodes s.broods × HoldsAt s.run.task s.run.settings s.searched (placed all_placed s.tables) m };
+    ghost stands = { λ s lent asked m. IsRunOf (WorksOn F.Fn E.Fn T.shown s.find s.enter) s.run asked s.pairs (T.shown lent) s.searched.nodes s.broods
+        × StandsAt s.run.task s.run.settings s.searched (T.shown lent) m };
 
-    ghost has_taken = { λ s asked m node number. IsRunOf W.Fn s.work s.run asked (all_placed s.tables.index).len s.searched.nodes s.broods
-        × IsTakenAt s.run.task s.run.settings s.searched (placed all_placed s.tables) m node number };
+    ghost holds = { λ s lent asked m. IsRunOf (WorksOn F.Fn E.Fn T.shown s.find s.enter) s.run asked s.pairs (T.shown lent) s.searched.nodes s.broods
+        × HoldsAt s.run.task s.run.settings s.searched (T.shown lent) m };
 
-    ghost has_evaluated = { λ s asked m node number x. IsRunOf W.Fn s.work s.run asked (all_placed s.tables.index).len s.searched.nodes s.broods
-        × IsTakenAt s.run.task s.run.settings s.searched (placed all_placed s.tables) m node number
-        × IsExpansionOf s.run.task s.searched (placed all_placed s.tables) number x };
+    ghost has_taken = { λ s lent asked m node number. IsRunOf (WorksOn F.Fn E.Fn T.shown s.find s.enter) s.run asked s.pairs (T.shown lent) s.searched.nodes s.broods
+        × IsTakenAt s.run.task s.run.settings s.searched (T.shown lent) m node number };
 
-    ghost standing_holds = { λ s asked m stands. (stands.0, stands.1.holds) };
+    ghost has_evaluated = { λ s lent asked m node number x. IsRunOf (WorksOn F.Fn E.Fn T.shown s.find s.enter) s.run asked s.pairs (T.shown lent) s.searched.nodes s.broods
+        × IsTakenAt s.run.task s.run.settings s.searched (T.shown lent) m node number
+        × IsExpansionOf s.run.task s.searched (T.shown lent) number x };
 
-    ghost taken_holds = { λ s asked m node number taken. (taken.0, taken.1.holds) };
+    ghost standing_holds = { λ s lent asked m stands. (stands.0, stands.1.holds) };
 
-    ghost evaluated_holds = { λ s asked m node number x evaluated. (evaluated.0, evaluated.1.holds) };
+    ghost taken_holds = { λ s lent asked m node number taken. (taken.0, taken.1.holds) };
+
+    ghost evaluated_holds = { λ s lent asked m node number x evaluated. (evaluated.0, evaluated.1.holds) };
 
     fn take(&mut self) -> Option<u64> {
         // By this law the node that is taken is the definition's first one.
@@ -58,24 +77,22 @@ impl<'a, W: Fn(&Run, &Tables<TupleIndex>, MarkJobs, AheadJobs) -> (MarkJobs, Ahe
     }
 
     fn has_goals(&self, number: u64) -> bool {
-        node_at(&self.run, &self.searched, &self.tables, number)
-            .mark
-            .g
-            == 0
+        node_at(&self.searched, number).mark.g == 0
     }
 
     fn plan_to(&self, alloc: Global, number: u64) -> Result<Atoms, AllocError> {
-        let node = node_at(&self.run, &self.searched, &self.tables, number);
+        let node = node_at(&self.searched, number);
         self.searched.nodes.plan_to(alloc, node.number)
     }
 
     fn counts(&self) -> Counts {
-        counts_of(&self.run, &self.searched, &self.tables)
+        counts_of(&self.searched, self.pairs)
     }
 
     fn evaluate(
         &mut self,
         _run: &wp_plain::Run,
+        lent: &T,
         number: u64,
     ) -> Result<(u64, Expansion), AllocError> {
         // By the law of the counters those of the children are those of their whole paths, and by the others nodes and
@@ -83,20 +100,28 @@ impl<'a, W: Fn(&Run, &Tables<TupleIndex>, MarkJobs, AheadJobs) -> (MarkJobs, Ahe
         counters_are_carried();
         children_are_numbered();
         nodes_are_numbered();
-        let expansion = expansion_of(
+        let (children, repeats) = children_at(
             &mut self.run,
             &self.searched,
-            &self.tables,
             &mut self.broods,
             number,
         )?;
-        let needed = self.tables.pairs() + expansion.pairs.len() as u64;
-        Ok((needed, expansion))
+        let pairs = (self.find)(lent, &children)?;
+        let needed = self.pairs + pairs.len() as u64;
+        Ok((
+            needed,
+            Expansion {
+                children,
+                repeats,
+                pairs,
+            },
+        ))
     }
 
     fn admit(
         &mut self,
         run: &wp_plain::Run,
+        lent: &mut T,
         number: u64,
         expansion: Expansion,
         wanted: bool,
@@ -106,16 +131,17 @@ impl<'a, W: Fn(&Run, &Tables<TupleIndex>, MarkJobs, AheadJobs) -> (MarkJobs, Ahe
         nodes_are_numbered();
         // By this law broods are those of their nodes where nodes are added.
         broods_go_on_fitting();
-        let node = node_at(&self.run, &self.searched, &self.tables, number);
-        let (numbered, aheads) = enter(
+        let node = node_at(&self.searched, number);
+        let pairs = self.pairs + expansion.pairs.len() as u64;
+        let (numbered, aheads) = (self.enter)(
             &self.run,
-            &self.work,
             &self.searched,
-            &mut self.tables,
+            lent,
             &mut self.broods,
             number,
             expansion,
         )?;
+        self.pairs = pairs;
         let told = told_of(&self.run, node, &numbered, wanted)?;
         let track = node.mark.track;
         keep_expansion(&mut self.searched, run.settings(), number, track, numbered)?;

@@ -6,11 +6,10 @@ use Rattle.std.proofs.lemmas.Grind.{flat_map-append}
 use Rattle.std.proofs.lemmas.List.{get_or_append_left, get_or-append-add, map_push, length-map}
 use Rattle.std.proofs.lemmas.List.Elements.{All-push, All-weaker}
 use Rattle.wp_novel.specs.Births.{BirthView}
-use Rattle.wp_arrive.specs.Seen.{PassView}
 use Rattle.wp_novel.specs.declared.birth.Pair.{Pair}
 use Rattle.wp_novel.specs.declared.job.JobPass.{JobPass}
 use Rattle.wp_novel.specs.declared.deal.Share.{Share}
-use Rattle.wp_novel.specs.NoveltyTables.{is_among, pairs_of}
+use Rattle.wp_novel.specs.NoveltyTables.{HomeView, is_among, pairs_of}
 use Rattle.wp_novel.specs.Jobs.{JobView, HomesBecome, Lends, Takes, births_of, passes_of, parts_at}
 use Rattle.wp_novel.specs.Dealing.{births_in, CanLend, CanMark, AreGiven, ArePassesFor}
 use Rattle.wp_novel.proofs.PairLemmas.{Homes}
@@ -93,7 +92,7 @@ can_mark done old now become p can =
     record {
       home = next.0;
       home_is = next.1;
-      table = can.table ∙ sym (ap (λ (h : PassView). h.table) next.2);
+      table = can.table ∙ sym (ap (λ (h : HomeView). h.table) next.2);
       words = can.words;
       part = can.part;
     }

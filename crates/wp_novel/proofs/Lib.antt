@@ -1,8 +1,11 @@
 pub mod AtomLemmas
 pub mod MarkedTupleLemmas
+pub mod HeldLemmas
+pub mod GrowLemmas
 pub mod MarkLemmas
 pub mod PairLemmas
 pub mod HomeLemmas
+pub mod GrowthLemmas
 pub mod PassLemmas
 pub mod StageLemmas
 pub mod WalkLemmas

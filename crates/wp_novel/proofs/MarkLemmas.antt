@@ -13,7 +13,7 @@ use Rattle.wp_novel.specs.MarkedTuples.{marked_tuples, AreCounted}
 use Rattle.wp_novel.specs.NoveltyTables.{is_same}
 use Rattle.wp_novel.specs.StandsFor.{first_number}
 use Rattle.wp_novel.specs.Marks.{marks_at, birth_marks, marks_for}
-use Rattle.wp_novel.proofs.MarkedTupleLemmas.{listed_are, to_listed}
+use Rattle.wp_novel.proofs.MarkedTupleLemmas.{AreBelow, listed_are, to_listed}
 
 -- the first arrival at a place of a number that is marked at some tuples
 first-marks_at : (places : Placing) (number : ℕ) (tuples : List (List ℕ)) (t : ℕ) → number ≤ 2 ^ 64 - 1 →
@@ -34,7 +34,7 @@ module _ (places : Placing) (apart : AreApart places) where
   abbrev is_marked : BirthView → List ℕ → Bool
   is_marked b tuple = list_all (has b.node.state) tuple && list_any (is_new b.fresh) tuple
 
-  same_test : (b : BirthView) (tuple : List ℕ) → length b.node.state ≡ places.atoms → AreCounted places b.node.state → HasPlace places tuple →
+  same_test : (b : BirthView) (tuple : List ℕ) → AreBelow places b.node.state → AreCounted places b.node.state → HasPlace places tuple →
       list_any (λ u. place_in places u == place_in places tuple) (marked_tuples places.width b) ≡ is_marked b tuple
   same_test b tuple size counted place = ⊎_elim
       (λ (passes : is_marked b tuple ≡ true).
@@ -52,7 +52,7 @@ module _ (places : Placing) (apart : AreApart places) where
       (cases_Bool (is_marked b tuple))
 
   -- the first arrival of a birth's marks at the place of a tuple
-  first_of_birth : (b : BirthView) (tuple : List ℕ) → length b.node.state ≡ places.atoms → AreCounted places b.node.state → HasPlace places tuple →
+  first_of_birth : (b : BirthView) (tuple : List ℕ) → AreBelow places b.node.state → AreCounted places b.node.state → HasPlace places tuple →
       b.node.number ≤ 2 ^ 64 - 1 → first (marks_at places b.node.number (marked_tuples places.width b)) (place_in places tuple) ≡ cond (is_marked b tuple) b.node.number (2 ^ 64 - 1)
   first_of_birth b tuple size counted place low =
       first-marks_at places b.node.number (marked_tuples places.width b) (place_in places tuple) low
@@ -64,31 +64,35 @@ module _ (places : Placing) (apart : AreApart places) where
       is_same b.node.counters counters ≡ true → list_all (has b.node.state) tuple ≡ true → list_any (is_new b.fresh) tuple ≡ false → m ≤ b.node.number
 
   pub record CanCount (b : BirthView) : Type 0 where
-    pub size : length b.node.state ≡ places.atoms
+    pub size : AreBelow places b.node.state
     pub counted : AreCounted places b.node.state
     pub low : b.node.number ≤ 2 ^ 64 - 1
 
+  -- what holds of a birth that has the counters
+  abbrev pub IsOf : ℕ × ℕ → (BirthView → Type 0) → BirthView → Type 0
+  IsOf counters P b = is_same b.node.counters counters ≡ true → P b
+
   -- with the first arrival before, that of the marks of births is the number of the first birth that has the tuple
-  pub first_of_births : (births : List BirthView) (counters : ℕ × ℕ) (tuple : List ℕ) (m : ℕ) → HasPlace places tuple → All CanCount births →
+  pub first_of_births : (births : List BirthView) (counters : ℕ × ℕ) (tuple : List ℕ) (m : ℕ) → HasPlace places tuple → All (IsOf counters CanCount) births →
       All (IsNoEarlier counters tuple m) births →
       min m (first (marks_for places counters births) (place_in places tuple)) ≡ min m (first_number (nodes_of births) counters tuple)
   first_of_births [] counters tuple m place can later = refl
   first_of_births (b ∷ births) counters tuple m place can later =
-      let first_can = All-head CanCount b births can in
+      let first_can = All-head (IsOf counters CanCount) b births can in
       ap (λ n. min m n) (first_append (birth_marks places counters b) (marks_for places counters births) (place_in places tuple))
       ∙ by (is_same b.node.counters counters) (list_all (has b.node.state) tuple) (list_any (is_new b.fresh) tuple)
-      (first_of_birth b tuple first_can.size first_can.counted place first_can.low)
+      (λ same. let h : CanCount b = first_can same in first_of_birth b tuple h.size h.counted place h.low)
       (All-head (IsNoEarlier counters tuple m) b births later)
-      (first_of_births births counters tuple m place (All-tail CanCount b births can) (All-tail (IsNoEarlier counters tuple m) b births later))
+      (first_of_births births counters tuple m place (All-tail (IsOf counters CanCount) b births can) (All-tail (IsNoEarlier counters tuple m) b births later))
       (first_le (marks_for places counters births) (place_in places tuple))
     where
-      by : (s a n : Bool) → first (marks_at places b.node.number (marked_tuples places.width b)) (place_in places tuple) ≡ cond (a && n) b.node.number (2 ^ 64 - 1) →
+      by : (s a n : Bool) → (s ≡ true → first (marks_at places b.node.number (marked_tuples places.width b)) (place_in places tuple) ≡ cond (a && n) b.node.number (2 ^ 64 - 1)) →
           (s ≡ true → a ≡ true → n ≡ false → m ≤ b.node.number) →
           min m (first (marks_for places counters births) (place_in places tuple)) ≡ min m (first_number (nodes_of births) counters tuple) →
           first (marks_for places counters births) (place_in places tuple) ≤ 2 ^ 64 - 1 →
           min m (min (first (cond s (marks_at places b.node.number (marked_tuples places.width b)) []) (place_in places tuple)) (first (marks_for places counters births) (place_in places tuple)))
           ≡ min m (cond (s && a) (min b.node.number (first_number (nodes_of births) counters tuple)) (first_number (nodes_of births) counters tuple))
-      by true true true mine early rest most = omega (arith, mine, rest, most)
-      by true true false mine early rest most = let m_low : m ≤ b.node.number = early refl refl refl in omega (arith, mine, rest, most)
-      by true false n mine early rest most = omega (arith, mine, rest, most)
+      by true true true mine early rest most = omega (arith, mine refl, rest, most)
+      by true true false mine early rest most = let m_low : m ≤ b.node.number = early refl refl refl in omega (arith, mine refl, rest, most)
+      by true false n mine early rest most = omega (arith, mine refl, rest, most)
       by false a n mine early rest most = omega (arith, rest, most)

@@ -33,6 +33,13 @@ or_cases false b h = inr h
 pub all_of_pair : (state : List Bool) (p q : ℕ) → list_all (has state) (p ∷ q ∷ []) ≡ (has state p && has state q)
 all_of_pair state p q = ap (λ b. has state p && b) (and_true (has state q))
 
+-- ---- the atoms of a state
+abbrev pub AreBelow : Placing → List Bool → Type 0
+AreBelow places state = (p : ℕ) → has state p ≡ true → p < places.atoms
+
+pub below_from : (places : Placing) (state : List Bool) → length state ≡ places.atoms → AreBelow places state
+below_from places state size p h = let less : p < length state = has_below state p h in omega arith
+
 -- ---- the pair of two atoms
 pub pair_less : (p q : ℕ) → p < q → pair_of p q ≡ p ∷ q ∷ []
 pair_less p q less = ap (λ b. cond b (p ∷ q ∷ []) (q ∷ p ∷ [])) (lt-ltb p q less)
@@ -131,7 +138,7 @@ module _ (b : BirthView) where
   pub of_new : (p : ℕ) → In p (new_atoms b) → (has b.node.state p ≡ true) × (is_new b.fresh p ≡ true)
   of_new p h = let at = In-filter_cases (is_new b.fresh) (atoms_in b.node.state) p h in (has_atoms b.node.state p at.0, at.1)
 
-  of_old : (p : ℕ) → In p (old_atoms b) → (has b.node.state p ≡ true) × (is_new b.fresh p ≡ false)
+  pub of_old : (p : ℕ) → In p (old_atoms b) → (has b.node.state p ≡ true) × (is_new b.fresh p ≡ false)
   of_old p h =
       let at = In-filter_cases (λ (a : ℕ). not (is_new b.fresh a)) (atoms_in b.node.state) p h in
       (has_atoms b.node.state p at.0, not_true (is_new b.fresh p) at.1)
@@ -169,7 +176,7 @@ module _ (b : BirthView) where
       (cases_Bool (is_new b.fresh p))
 
   -- ---- what is listed
-  module _ (places : Placing) (size : length b.node.state ≡ places.atoms) (counted : AreCounted places b.node.state) where
+  module _ (places : Placing) (size : AreBelow places b.node.state) (counted : AreCounted places b.node.state) where
     abbrev pub IsNewTuple : List ℕ → Type 0
     IsNewTuple u = HasPlace places u × (list_all (has b.node.state) u ≡ true) × (list_any (is_new b.fresh) u ≡ true)
 
@@ -177,14 +184,14 @@ module _ (b : BirthView) where
     single_is u h =
         let found : (p : ℕ) × In p (new_atoms b) × (u ≡ p ∷ []) = In-map_cases (λ (a : ℕ). a ∷ []) (new_atoms b) u h in
         let at = of_new found.0 found.1 in
-        let below : found.0 < places.atoms = let less : found.0 < length b.node.state = has_below b.node.state found.0 at.0 in omega arith in
+        let below : found.0 < places.atoms = size found.0 at.0 in
         let new : IsNewTuple (found.0 ∷ []) = (below, and_true (has b.node.state found.0) ∙ at.0, or_false (is_new b.fresh found.0) ∙ at.1) in
         (found.0, found.2, subst IsNewTuple (sym found.2) new)
 
     new_pair : (two : places.width ≡ 2) (p q : ℕ) → p < q → has b.node.state p ≡ true → has b.node.state q ≡ true →
         (is_new b.fresh p ≡ true) ⊎ (is_new b.fresh q ≡ true) → IsNewTuple (p ∷ q ∷ [])
     new_pair two p q less one other new =
-        let below : q < places.atoms = let h : q < length b.node.state = has_below b.node.state q other in omega arith in
+        let below : q < places.atoms = size q other in
         let any : list_any (is_new b.fresh) (p ∷ q ∷ []) ≡ true = ⊎_elim
         (λ (h : is_new b.fresh p ≡ true). ap (λ x. x || (is_new b.fresh q || false)) h)
         (λ (h : is_new b.fresh q ≡ true). ap (λ x. is_new b.fresh p || (x || false)) h ∙ last (is_new b.fresh p))
@@ -233,17 +240,22 @@ module _ (b : BirthView) where
         (pair_listed p q h.0.1.0 parts.0 parts.1 new))
     to_listed (p ∷ q ∷ r ∷ u) h = absurd h.0
 
-pub marked_have_places : (places : Placing) (b : BirthView) → length b.node.state ≡ places.atoms → AreCounted places b.node.state →
+-- what holds of each tuple of a list
+all_from : (P : List ℕ → Type 0) (us : List (List ℕ)) → ((u : List ℕ) → In u us → P u) → All P us
+all_from P [] each = All-nil P
+all_from P (u ∷ us) each = All-cons P u us (each u (inl refl)) (all_from P us (λ v later. each v (inr later)))
+
+pub marked_have_places : (places : Placing) (b : BirthView) → AreBelow places b.node.state → AreCounted places b.node.state →
     All (HasPlace places) (marked_tuples places.width b)
-marked_have_places places b size counted = all_in (HasPlace places) (marked_tuples places.width b) (λ u among. (listed_are b places size counted u among).0)
-  where
-    all_in : (P : List ℕ → Type 0) (us : List (List ℕ)) → ((u : List ℕ) → In u us → P u) → All P us
-    all_in P [] each = All-nil P
-    all_in P (u ∷ us) each = All-cons P u us (each u (inl refl)) (all_in P us (λ v later. each v (inr later)))
+marked_have_places places b size counted = all_from (HasPlace places) (marked_tuples places.width b) (λ u among. (listed_are b places size counted u among).0)
+
+pub marked_in_state : (places : Placing) (b : BirthView) → AreBelow places b.node.state → AreCounted places b.node.state →
+    All (λ u. list_all (has b.node.state) u ≡ true) (marked_tuples places.width b)
+marked_in_state places b size counted = all_from (λ u. list_all (has b.node.state) u ≡ true) (marked_tuples places.width b) (λ u among. (listed_are b places size counted u among).1)
 
 -- ---- the law
 pub marked_tuples_new : MarkedTuplesAreNew
 marked_tuples_new places b tuple apart size counted = (
-  λ h. listed_are b places size counted tuple (In-from_Contains tuple (marked_tuples places.width b) h),
-  λ h. Contains-from_In tuple (marked_tuples places.width b) (to_listed b places size counted tuple h),
+  λ h. listed_are b places (below_from places b.node.state size) counted tuple (In-from_Contains tuple (marked_tuples places.width b) h),
+  λ h. Contains-from_In tuple (marked_tuples places.width b) (to_listed b places (below_from places b.node.state size) counted tuple h),
 )

@@ -6,11 +6,9 @@ use Rattle.std.proofs.lemmas.List.Elements.{All-nil, All-cons, All-head, All-tai
 use Rattle.wp_task.specs.Set.{has, IsIn}
 use Rattle.wp_task.specs.Novelty.{Generated, IsNewAt, HasNovelty, novelty_of}
 use Rattle.wp_task.proofs.NoveltyLemmas.{novelty_is_computed}
-use Rattle.wp_tuples.specs.Placing.{HasPlace, place_in}
-use Rattle.wp_arrive.specs.FirstArrival.{first}
-use Rattle.wp_arrive.specs.Seen.{PassView}
+use Rattle.wp_tuples.specs.Placing.{HasPlace}
 use Rattle.wp_novel.specs.declared.birth.Pair.{Pair}
-use Rattle.wp_novel.specs.NoveltyTables.{NoveltyTables, AreFilled, counters_of, is_same, home_of}
+use Rattle.wp_novel.specs.NoveltyTables.{HomeView, NoveltyTables, AreFilled, counters_of, is_same, home_of, first_at}
 use Rattle.wp_novel.specs.StandsFor.{has_tuple, first_number, StandsFor}
 use Rattle.wp_novel.specs.MarkedTuples.{AreCounted}
 use Rattle.wp_novel.specs.Marks.{IsLeastSize}
@@ -77,8 +75,8 @@ new_once nodes x p at = record {
 }
 
 -- ---- the rule
-pub has_novelty : (t : NoveltyTables) (pair : Pair) (births : List Generated) (x : Generated) (home : PassView) (w : ℕ) → AreFilled t → StandsFor t births →
-    counters_of pair ≡ x.counters → home_of t.homes pair ≡ Some home → length x.state ≡ t.index.atoms → AreCounted t.index x.state → x.number < 2 ^ 64 → IsLeastSize t.index x.state x.number home.marks w →
+pub has_novelty : (t : NoveltyTables) (pair : Pair) (births : List Generated) (x : Generated) (home : HomeView) (w : ℕ) → AreFilled t → StandsFor t births →
+    counters_of pair ≡ x.counters → home_of t.homes pair ≡ Some home → length x.state ≡ t.index.atoms → AreCounted t.index x.state → x.number < 2 ^ 64 → IsLeastSize t.index (first_at home) x.state x.number w →
     HasNovelty t.index.width births x w
 has_novelty t pair births x home w filled stands counters found fits counted word size = record {
   range = size.range;
@@ -86,8 +84,8 @@ has_novelty t pair births x home w filled stands counters found fits counted wor
   attained = ⊎_elim
       (λ (last : w ≡ t.index.width + 1). inl last)
       (λ (some : (tuple : List ℕ) × HasPlace t.index tuple × (list_all (has x.state) tuple ≡ true) ×
-      (length tuple ≡ w) × (x.number ≤ first home.marks (place_in t.index tuple))).
-      let arrival : first home.marks (place_in t.index some.0) ≡ first_number births x.counters some.0 = stands.firsts pair home found some.0 some.1 ∙ ap (λ (c : ℕ × ℕ). first_number births c some.0) counters in
+      (length tuple ≡ w) × (x.number ≤ first_at home tuple)).
+      let arrival : first_at home some.0 ≡ first_number births x.counters some.0 = stands.firsts pair home found some.0 some.1 ∙ ap (λ (c : ℕ × ℕ). first_number births c some.0) counters in
       let late : x.number ≤ first_number births x.counters some.0 = omega (arith, some.4) in
       let answer : (tuple : List ℕ) × (length tuple ≡ w) × IsNewAt births x tuple =
       (some.0, some.3, is_new births x some.0 some.2 late) in inr answer)
@@ -96,8 +94,8 @@ has_novelty t pair births x home w filled stands counters found fits counted wor
   where
     old : (tuple : List ℕ) → HasPlace t.index tuple → length tuple < w → ¬ (IsNewAt births x tuple)
     old tuple h short at =
-        let arrival : first home.marks (place_in t.index tuple) ≡ first_number births x.counters tuple = stands.firsts pair home found tuple h ∙ ap (λ (c : ℕ × ℕ). first_number births c tuple) counters in
-        let less : first home.marks (place_in t.index tuple) < x.number = size.least tuple h (all_in x.state tuple at.holds) short in
+        let arrival : first_at home tuple ≡ first_number births x.counters tuple = stands.firsts pair home found tuple h ∙ ap (λ (c : ℕ × ℕ). first_number births c tuple) counters in
+        let less : first_at home tuple < x.number = size.least tuple h (all_in x.state tuple at.holds) short in
         let early : first_number births x.counters tuple < x.number = omega arith in
         not_new births x tuple word early at
 
@@ -126,8 +124,8 @@ has_novelty t pair births x home w filled stands counters found fits counted wor
         (cases_order p q)
     by (p ∷ q ∷ r ∷ tuple) some short at = absurd (omega (arith, size.range.1, filled.apart.width.1))
 
-pub novelty_is : (t : NoveltyTables) (pair : Pair) (births : List Generated) (x : Generated) (home : PassView) (w : ℕ) → AreFilled t → StandsFor t births →
-    counters_of pair ≡ x.counters → home_of t.homes pair ≡ Some home → length x.state ≡ t.index.atoms → AreCounted t.index x.state → x.number < 2 ^ 64 → IsLeastSize t.index x.state x.number home.marks w →
+pub novelty_is : (t : NoveltyTables) (pair : Pair) (births : List Generated) (x : Generated) (home : HomeView) (w : ℕ) → AreFilled t → StandsFor t births →
+    counters_of pair ≡ x.counters → home_of t.homes pair ≡ Some home → length x.state ≡ t.index.atoms → AreCounted t.index x.state → x.number < 2 ^ 64 → IsLeastSize t.index (first_at home) x.state x.number w →
     w ≡ novelty_of t.index.width births x
 novelty_is t pair births x home w filled stands counters found fits counted word size =
     (novelty_is_computed t.index.width births x w).0 (has_novelty t pair births x home w filled stands counters found fits counted word size)

@@ -3,10 +3,8 @@ use Rattle.std.proofs.Common.{◌≡◌, ◌||◌, ℕ, ◌≤◌, Bool, true, f
 use Rattle.std.specs.List.{list_all, list_any}
 use Rattle.std.proofs.lemmas.Bool.{and_parts, and_from, both_ways}
 use Rattle.wp_task.specs.Set.{has}
-use Rattle.wp_tuples.specs.Placing.{place_in}
-use Rattle.wp_arrive.specs.FirstArrival.{first}
 use Rattle.wp_novel.specs.Births.{is_new}
-use Rattle.wp_novel.specs.NoveltyTables.{counters_of, is_same}
+use Rattle.wp_novel.specs.NoveltyTables.{counters_of, is_same, first_at}
 use Rattle.wp_novel.specs.StandsFor.{has_tuple, first_number, SharedTuplesAreMarked, NoTupleIsOld}
 use Rattle.wp_novel.proofs.FirstLemmas.{first_number_is_first}
 use Rattle.wp_novel.proofs.PairLemmas.{is_same_itself}
@@ -31,7 +29,7 @@ shared_tuples_marked t births x b bound stands among counters share less pair ho
     and_from (is_same x.counters (counters_of pair)) (list_all (has x.state) tuple)
     (ap (λ (c : ℕ × ℕ). is_same x.counters c) mine ∙ is_same_itself x.counters) (all_shared b.node.state x.state (is_new b.fresh) share tuple all old) in
     let least : first_number births (counters_of pair) tuple ≤ x.number = (first_number_is_first births (counters_of pair) tuple).least x among has_it in
-    let word : first home.marks (place_in t.index tuple) ≡ first_number births (counters_of pair) tuple = stands.firsts pair home found tuple place in
+    let word : first_at home tuple ≡ first_number births (counters_of pair) tuple = stands.firsts pair home found tuple place in
     omega arith
 
 pub no_tuple_old : NoTupleIsOld

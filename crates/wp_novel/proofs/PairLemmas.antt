@@ -6,9 +6,8 @@ use Rattle.std.specs.Map.{keys_of}
 use Rattle.std.proofs.lemmas.Bool.{cases_Bool, cond-true, cond-false, eqb-true, eq-eqb, and_parts, and_from}
 use Rattle.std.proofs.lemmas.Map.Made.{is_some-lookup}
 use Rattle.std.specs.Cmp.{nat_eq_equiv}
-use Rattle.wp_arrive.specs.Seen.{PassView}
 use Rattle.wp_novel.specs.declared.birth.Pair.{Pair}
-use Rattle.wp_novel.specs.NoveltyTables.{counters_of, is_same, is_among, pairs_of, is_pair, home_of}
+use Rattle.wp_novel.specs.NoveltyTables.{HomeView, counters_of, is_same, is_among, pairs_of, is_pair, home_of}
 
 -- ---- pairs
 pub same_counters : (one other : ℕ × ℕ) → is_same one other ≡ true → one ≡ other
@@ -43,7 +42,7 @@ is_pair-swapped one other = λ j. nat_eq_equiv.symm one.g other.g j && nat_eq_eq
 
 -- ---- open pairs
 abbrev pub Homes : Type 0
-Homes = List (Pair × PassView)
+Homes = List (Pair × HomeView)
 
 among : (pairs : List Pair) (p : Pair) → is_among (map counters_of pairs) (counters_of p) ≡ list_any (is_pair p) pairs
 among [] p = refl
@@ -66,11 +65,11 @@ pub some_of : {X : Type 0} (o : Option X) → is_some o ≡ true → (x : X) × 
 some_of None is = absurd (cc)
 some_of (Some x) is = (x, refl)
 
-pub some_same : (one other : PassView) → Some one ≡ Some other → one ≡ other
+pub some_same : (one other : HomeView) → Some one ≡ Some other → one ≡ other
 some_same one other e = cc
 
 -- ---- a pair more
-pub opened_cases : (homes : Homes) (pair : Pair) (home : PassView) (q : Pair) (found : PassView) → home_of (homes ++ (pair, home) ∷ []) q ≡ Some found →
+pub opened_cases : (homes : Homes) (pair : Pair) (home : HomeView) (q : Pair) (found : HomeView) → home_of (homes ++ (pair, home) ∷ []) q ≡ Some found →
     (home_of homes q ≡ Some found) ⊎ ((is_pair q pair ≡ true) × (home ≡ found))
 opened_cases [] pair home q found e = ⊎_elim
     (λ (here : is_pair q pair ≡ true). inr (here, some_same home found (sym (cond-true (is_pair q pair) (Some home) None here) ∙ e)))

@@ -6,11 +6,10 @@ use Rattle.std.proofs.lemmas.List.Elements.{All-head, All-tail}
 use Rattle.wp_tuples.specs.Placing.{Placing}
 use Rattle.wp_arrive.specs.declared.view.Arrival.{Arrival}
 use Rattle.wp_arrive.specs.Rule.{latest}
-use Rattle.wp_arrive.specs.Seen.{PassView, seen}
 use Rattle.wp_novel.specs.declared.birth.Pair.{Pair}
 use Rattle.wp_novel.specs.declared.job.JobPass.{JobPass}
 use Rattle.wp_novel.specs.Births.{BirthView}
-use Rattle.wp_novel.specs.NoveltyTables.{counters_of, is_pair}
+use Rattle.wp_novel.specs.NoveltyTables.{HomeView, at_home, counters_of, is_pair}
 use Rattle.wp_novel.specs.Marks.{birth_marks, marks_for}
 use Rattle.wp_novel.specs.Jobs.{JobView, passes_of, parts_at, passed_at, has_pass, Lends, Takes}
 use Rattle.wp_novel.proofs.PairLemmas.{is_pair-swapped}
@@ -52,28 +51,29 @@ parts_few pair (j ∷ jobs) ones =
     omega arith
 
 -- ---- lent and taken
-pub lends_none : (pair : Pair) (home : PassView) → Lends [] pair home home
-lends_none pair home = record { table = refl; marks = refl; parts = omega arith }
+pub lends_none : (pair : Pair) (home : HomeView) → Lends [] pair home home
+lends_none pair home = record { ranking = refl; table = refl; marks = refl; parts = omega arith }
 
-pub lends_more : (xs ys : List JobPass) (pair : Pair) (a b c : PassView) → Lends xs pair a b → Lends ys pair b c → Lends (xs ++ ys) pair a c
+pub lends_more : (xs ys : List JobPass) (pair : Pair) (a b c : HomeView) → Lends xs pair a b → Lends ys pair b c → Lends (xs ++ ys) pair a c
 lends_more xs ys pair a b c first second = record {
+  ranking = second.ranking ∙ first.ranking;
   table = second.table ∙ first.table;
   marks = second.marks ∙ first.marks;
   parts = omega (arith, parts_at-append pair xs ys, first.parts, second.parts);
 }
 
-pub takes_none : (pair : Pair) (home : PassView) → Takes [] pair home home
+pub takes_none : (pair : Pair) (home : HomeView) → Takes [] pair home home
 takes_none pair home =
     let parts : home.parts ≡ home.parts + 0 = omega arith in
-    λ j. seen home.table (sym (append-nil home.marks) j) (parts j)
+    λ j. at_home home.ranking home.table (sym (append-nil home.marks) j) (parts j)
 
-pub takes_more : (xs ys : List JobPass) (pair : Pair) (a b c : PassView) → Takes xs pair a b → Takes ys pair b c → Takes (xs ++ ys) pair a c
+pub takes_more : (xs ys : List JobPass) (pair : Pair) (a b c : HomeView) → Takes xs pair a b → Takes ys pair b c → Takes (xs ++ ys) pair a c
 takes_more xs ys pair a b c first second =
     let marks : (a.marks ++ passed_at pair xs) ++ passed_at pair ys ≡ a.marks ++ passed_at pair (xs ++ ys) =
     append_assoc a.marks (passed_at pair xs) (passed_at pair ys) ∙ ap (λ l. a.marks ++ l) (sym (passed_at-append pair xs ys)) in
     let parts : (a.parts + parts_at pair xs) + parts_at pair ys ≡ a.parts + parts_at pair (xs ++ ys) = omega (arith, parts_at-append pair xs ys) in
-    second ∙ (ap (λ (h : PassView). seen h.table (h.marks ++ passed_at pair ys) (h.parts + parts_at pair ys)) first
-    ∙ (λ j. seen a.table (marks j) (parts j)))
+    second ∙ (ap (λ (h : HomeView). at_home h.ranking h.table (h.marks ++ passed_at pair ys) (h.parts + parts_at pair ys)) first
+    ∙ (λ j. at_home a.ranking a.table (marks j) (parts j)))
 
 -- ---- one pass
 -- at its own pair, and at another one

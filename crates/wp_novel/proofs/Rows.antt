@@ -1,11 +1,13 @@
 -- First numbers, marks and sizes of a few births.
-use Rattle.std.proofs.Common.{◌≡◌, ℕ, ◌-◌, ◌^◌, true, false, List, [], ◌∷◌, Some, None, refl}
+use Rattle.std.proofs.Common.{◌≡◌, ℕ, ◌-◌, ◌^◌, true, false, List, [], ◌∷◌, map, Some, None, refl}
 use Rattle.wp_task.specs.Novelty.{Generated, novelty_of}
 use Rattle.wp_tuples.specs.Placing.{Placing, all_placed}
 use Rattle.wp_arrive.specs.declared.view.Arrival.{Arrival}
 use Rattle.wp_arrive.specs.FirstArrival.{mark}
 use Rattle.wp_novel.specs.Births.{BirthView}
 use Rattle.wp_novel.specs.MarkedTuples.{new_atoms, old_atoms}
+use Rattle.wp_tuples.specs.Ranking.{ranked}
+use Rattle.wp_novel.specs.NoveltyTables.{HomeView, at_home, no_words, first_at}
 use Rattle.wp_novel.specs.Marks.{marks_for, late_size}
 use Rattle.wp_novel.specs.StandsFor.{first_number, last_number}
 
@@ -84,3 +86,16 @@ novelty_with_new = refl
 
 novelty_without_new : novelty_of 2 their_nodes without_new.node ≡ 3
 novelty_without_new = refl
+
+-- ---- the same by ranks, where atom 2 came true last
+abbrev home_of_three : HomeView
+home_of_three = at_home (record { width = 2; ranks = 0 ∷ 1 ∷ 2 ∷ []; used = 3 }) no_words (marks_for (ranked (record { width = 2; ranks = 0 ∷ 1 ∷ 2 ∷ []; used = 3 })) near (first_birth ∷ with_new ∷ [])) 1
+
+abbrev home_of_two : HomeView
+home_of_two = at_home (record { width = 2; ranks = 0 ∷ 1 ∷ (2 ^ 32 - 1) ∷ []; used = 2 }) no_words (marks_for (ranked (record { width = 2; ranks = 0 ∷ 1 ∷ (2 ^ 32 - 1) ∷ []; used = 2 })) near (first_birth ∷ [])) 1
+
+before_it_came_true : map (first_at home_of_two) ((2 ∷ []) ∷ (0 ∷ 1 ∷ []) ∷ (0 ∷ 2 ∷ []) ∷ []) ≡ (2 ^ 64 - 1) ∷ 0 ∷ (2 ^ 64 - 1) ∷ []
+before_it_came_true = refl
+
+after_it_came_true : map (first_at home_of_three) ((2 ∷ []) ∷ (0 ∷ 1 ∷ []) ∷ (0 ∷ 2 ∷ []) ∷ (1 ∷ 2 ∷ []) ∷ []) ≡ 1 ∷ 0 ∷ 1 ∷ 1 ∷ []
+after_it_came_true = refl

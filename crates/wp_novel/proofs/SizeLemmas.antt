@@ -11,8 +11,7 @@ use Rattle.wp_arrive.specs.FirstArrival.{first}
 use Rattle.wp_novel.specs.Births.{BirthView, is_new}
 use Rattle.wp_novel.specs.MarkedTuples.{pairs_after, new_atoms, old_atoms, AreCounted}
 use Rattle.wp_novel.specs.Marks.{is_late, late_size, IsLeastSize}
-use Rattle.wp_novel.specs.Dealing.{IsEarlierAtOld}
-use Rattle.wp_novel.proofs.MarkedTupleLemmas.{and_true, not_true, all_of_pair, single_listed, pair_listed, single_is, pair_is}
+use Rattle.wp_novel.proofs.MarkedTupleLemmas.{AreBelow, and_true, not_true, all_of_pair, single_listed, pair_listed, single_is, pair_is}
 
 late_is : (m n : ℕ) → not (nat_lt m n) ≡ true → n ≤ m
 late_is m n h = ltb-false m n (not_true (nat_lt m n) h)
@@ -23,8 +22,17 @@ early_is m n h = ltb-true m n (not_false (nat_lt m n) h) where
   not_false true h = refl
   not_false false h = absurd (cc)
 
-module _ (places : Placing) (apart : AreApart places) (b : BirthView) (marks : List Arrival) (size : length b.node.state ≡ places.atoms)
-    (counted : AreCounted places b.node.state) (earlier : IsEarlierAtOld places marks b) where
+-- the first arrivals at the places of tuples
+abbrev pub firsts_in : Placing → List Arrival → List ℕ → ℕ
+firsts_in places marks tuple = first marks (place_in places tuple)
+
+-- where the birth has a tuple without a new atom, a lesser number was marked
+abbrev pub IsEarlier : Placing → List Arrival → BirthView → Type 0
+IsEarlier places marks b = (tuple : List ℕ) → HasPlace places tuple → list_all (has b.node.state) tuple ≡ true →
+    list_any (is_new b.fresh) tuple ≡ false → firsts_in places marks tuple < b.node.number
+
+module _ (places : Placing) (apart : AreApart places) (b : BirthView) (marks : List Arrival) (size : AreBelow places b.node.state)
+    (counted : AreCounted places b.node.state) (earlier : IsEarlier places marks b) where
   abbrev state : List Bool
   state = b.node.state
 
@@ -75,7 +83,7 @@ module _ (places : Placing) (apart : AreApart places) (b : BirthView) (marks : L
   abbrev Attained : ℕ → Type 0
   Attained w = (tuple : List ℕ) × HasPlace places tuple × (list_all (has state) tuple ≡ true) × (length tuple ≡ w) × (b.node.number ≤ first marks (place_in places tuple))
 
-  size_one : list_any late singles ≡ true → IsLeastSize places state b.node.number marks 1
+  size_one : list_any late singles ≡ true → IsLeastSize places (firsts_in places marks) state b.node.number 1
   size_one some =
       let found = list_any-at late singles some in
       let at = single_is b places size counted found.0 found.1 in
@@ -86,7 +94,7 @@ module _ (places : Placing) (apart : AreApart places) (b : BirthView) (marks : L
         attained = inr attained;
       }
 
-  size_two : list_any late singles ≡ false → places.width ≡ 2 → list_any late pairs ≡ true → IsLeastSize places state b.node.number marks 2
+  size_two : list_any late singles ≡ false → places.width ≡ 2 → list_any late pairs ≡ true → IsLeastSize places (firsts_in places marks) state b.node.number 2
   size_two none two some =
       let found = list_any-at late pairs some in
       let at = pair_is b places size counted two found.0 found.1 in
@@ -97,17 +105,17 @@ module _ (places : Placing) (apart : AreApart places) (b : BirthView) (marks : L
         attained = inr attained;
       }
 
-  size_none : list_any late singles ≡ false → (places.width ≡ 2 → list_any late pairs ≡ false) → IsLeastSize places state b.node.number marks (places.width + 1)
+  size_none : list_any late singles ≡ false → (places.width ≡ 2 → list_any late pairs ≡ false) → IsLeastSize places (firsts_in places marks) state b.node.number (places.width + 1)
   size_none none nor = record {
     range = (omega arith, omega arith);
     least = least (places.width + 1) (λ more. none) (λ more. nor);
     attained = inl refl;
   }
 
-  pub late_size_is : IsLeastSize places state b.node.number marks (late_size places marks b.node.number (old_atoms b) (new_atoms b))
+  pub late_size_is : IsLeastSize places (firsts_in places marks) state b.node.number (late_size places marks b.node.number (old_atoms b) (new_atoms b))
   late_size_is = by (list_any late singles) (places.width == 2) (list_any late pairs) refl refl refl where
     by : (one wide two : Bool) → list_any late singles ≡ one → (places.width == 2) ≡ wide → list_any late pairs ≡ two →
-        IsLeastSize places state b.node.number marks (cond one 1 (cond (wide && two) 2 (places.width + 1)))
+        IsLeastSize places (firsts_in places marks) state b.node.number (cond one 1 (cond (wide && two) 2 (places.width + 1)))
     by true wide two one_is wide_is two_is = size_one one_is
     by false true true one_is wide_is two_is = size_two one_is (eqb-true places.width 2 wide_is) two_is
     by false true false one_is wide_is two_is = size_none one_is (λ h. two_is)
@@ -115,7 +123,7 @@ module _ (places : Placing) (apart : AreApart places) (b : BirthView) (marks : L
 
 -- where there are no places no tuple is late
 pub size_of_none : (places : Placing) (state : List Bool) (number : ℕ) (marks : List Arrival) → AreApart places → places.len ≡ 0 →
-    IsLeastSize places state number marks (places.width + 1)
+    IsLeastSize places (firsts_in places marks) state number (places.width + 1)
 size_of_none places state number marks apart none = record {
   range = (omega arith, omega arith);
   least = λ tuple place all short. let below : place_in places tuple < places.len = apart.below tuple place in absurd (omega arith);

@@ -12,33 +12,32 @@ use Rattle.std.proofs.lemmas.Option.{slice_get-get_or}
 use Rattle.std.proofs.Math.Nat.{suc-mul}
 use Rattle.wp_task.specs.Set.{has}
 use Rattle.wp_task.specs.Novelty.{Generated}
-use Rattle.wp_tuples.specs.Placing.{Placing, place_in}
+use Rattle.wp_tuples.specs.Placing.{Placing}
 use Rattle.wp_arrive.specs.declared.view.Arrival.{Arrival}
-use Rattle.wp_arrive.specs.FirstArrival.{first}
-use Rattle.wp_arrive.specs.Seen.{PassView}
 use Rattle.wp_novel.specs.declared.birth.Pair.{Pair}
-use Rattle.wp_novel.specs.NoveltyTables.{NoveltyTables, AreFilled, IsAtHome, counters_of, is_same, is_among, pairs_of, is_open, IsOpen, is_pair, home_of}
+use Rattle.wp_novel.specs.NoveltyTables.{HomeView, NoveltyTables, AreFilled, IsFilled, IsAtHome, counters_of, is_same, is_among, pairs_of, is_open, IsOpen, is_pair, home_of}
 use Rattle.wp_novel.specs.StandsFor.{first_number, last_number, last_after, StandsFor}
 use Rattle.wp_novel.proofs.PairLemmas.{Homes, same_pair, same_counters, opened_cases}
+use Rattle.wp_novel.proofs.GrowLemmas.{unmarked_first}
 
 -- ---- a pair more
 abbrev pub with_homes : Placing → ℕ → Option ℕ → List ℕ → Homes → NoveltyTables
 with_homes places limit last out homes = record { index = places; limit = limit; homes = homes; last = last; out = out }
 
-abbrev pub opened : NoveltyTables → Pair → PassView → NoveltyTables
+abbrev pub opened : NoveltyTables → Pair → HomeView → NoveltyTables
 opened t pair home = record t { homes = t.homes ++ (pair, home) ∷ [] }
 
-pub pairs_more : (homes : Homes) (pair : Pair) (home : PassView) → pairs_of (homes ++ (pair, home) ∷ []) ≡ pairs_of homes ++ counters_of pair ∷ []
+pub pairs_more : (homes : Homes) (pair : Pair) (home : HomeView) → pairs_of (homes ++ (pair, home) ∷ []) ≡ pairs_of homes ++ counters_of pair ∷ []
 pairs_more homes pair home =
-    ap (λ (ks : List Pair). map counters_of ks) (map_push (λ (e : Pair × PassView). e.0) homes (pair, home)) ∙ map_push counters_of (keys_of homes) pair
+    ap (λ (ks : List Pair). map counters_of ks) (map_push (λ (e : Pair × HomeView). e.0) homes (pair, home)) ∙ map_push counters_of (keys_of homes) pair
 
-pub filled_more : (t : NoveltyTables) (pair : Pair) (home : PassView) → AreFilled t → home.table.words ≡ t.index.len →
+pub filled_more : (t : NoveltyTables) (pair : Pair) (home : HomeView) → AreFilled t → IsFilled t.index.width t.index.atoms home →
     length t.homes * t.index.len + t.index.len ≤ t.limit → AreFilled (opened t pair home)
 filled_more t pair home filled words fits = record {
   apart = filled.apart;
-  words = λ q found e. ⊎_elim
-      (λ (was : home_of t.homes q ≡ Some found). filled.words q found was)
-      (λ (new : (is_pair q pair ≡ true) × (home ≡ found)). sym (ap (λ (h : PassView). h.table.words) new.1) ∙ words)
+  homes = λ q found e. ⊎_elim
+      (λ (was : home_of t.homes q ≡ Some found). filled.homes q found was)
+      (λ (new : (is_pair q pair ≡ true) × (home ≡ found)). subst (IsFilled t.index.width t.index.atoms) new.1 words)
       (opened_cases t.homes pair home q found e);
   within =
       let n : ℕ = t.index.len in
@@ -50,12 +49,12 @@ filled_more t pair home filled words fits = record {
   later = filled.later;
 }
 
-pub home_more : (t : NoveltyTables) (pair : Pair) (home : PassView) → home.parts ≡ 2 ^ 32 → IsAtHome t → IsAtHome (opened t pair home)
+pub home_more : (t : NoveltyTables) (pair : Pair) (home : HomeView) → home.parts ≡ 2 ^ 32 → IsAtHome t → IsAtHome (opened t pair home)
 home_more t pair home whole at = record {
   none_out = at.none_out;
   whole = λ q found e. ⊎_elim
       (λ (was : home_of t.homes q ≡ Some found). at.whole q found was)
-      (λ (new : (is_pair q pair ≡ true) × (home ≡ found)). sym (ap (λ (h : PassView). h.parts) new.1) ∙ whole)
+      (λ (new : (is_pair q pair ≡ true) × (home ≡ found)). sym (ap (λ (h : HomeView). h.parts) new.1) ∙ whole)
       (opened_cases t.homes pair home q found e);
 }
 
@@ -69,7 +68,7 @@ none_first pairs counters tuple (b ∷ births) none are =
     ap (λ s. cond (s && list_all (has b.state) tuple) (min b.number (first_number births counters tuple)) (first_number births counters tuple)) other
     ∙ none_first pairs counters tuple births none (All-tail (λ (x : Generated). is_among pairs x.counters ≡ true) b births are)
 
-pub stands_more : (t : NoveltyTables) (pair : Pair) (home : PassView) (births : List Generated) → home.marks ≡ [] → is_open t (counters_of pair) ≡ false →
+pub stands_more : (t : NoveltyTables) (pair : Pair) (home : HomeView) (births : List Generated) → home.marks ≡ [] → is_open t (counters_of pair) ≡ false →
     StandsFor t births → StandsFor (opened t pair home) births
 stands_more t pair home births unmarked closed stands = record {
   rising = stands.rising;
@@ -80,8 +79,8 @@ stands_more t pair home births unmarked closed stands = record {
   firsts = λ q found e tuple h. ⊎_elim
       (λ (was : home_of t.homes q ≡ Some found). stands.firsts q found was tuple h)
       (λ (new : (is_pair q pair ≡ true) × (home ≡ found)).
-      let none : found.marks ≡ [] = ap (λ (x : PassView). x.marks) (sym new.1) ∙ unmarked in
-      ap (λ (l : List Arrival). first l (place_in t.index tuple)) none
+      let none : found.marks ≡ [] = ap (λ (x : HomeView). x.marks) (sym new.1) ∙ unmarked in
+      unmarked_first found tuple none
       ∙ sym (none_first (pairs_of t.homes) (counters_of q) tuple births (ap (λ p. is_among (pairs_of t.homes) (counters_of p)) (same_pair q pair new.0) ∙ closed) stands.pairs))
       (opened_cases t.homes pair home q found e);
 }

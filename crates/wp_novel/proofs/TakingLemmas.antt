@@ -11,9 +11,9 @@ use Rattle.wp_novel.specs.Births.{BirthView}
 use Rattle.wp_arrive.specs.Seen.{PassView, seen}
 use Rattle.wp_novel.specs.declared.birth.Pair.{Pair}
 use Rattle.wp_novel.specs.declared.job.JobPass.{JobPass}
-use Rattle.wp_novel.specs.NoveltyTables.{counters_of, is_same, is_among, pairs_of, is_pair, home_of, EachHome}
-use Rattle.wp_novel.specs.Jobs.{HomesBecome, Lends, parts_at, has_pass}
-use Rattle.wp_novel.specs.Dealing.{IsGivenOf, HasWords, ArePassesFor, TakesPass}
+use Rattle.wp_novel.specs.NoveltyTables.{HomeView, at_home, counters_of, is_same, is_among, pairs_of, is_pair, home_of, EachHome}
+use Rattle.wp_novel.specs.Jobs.{HomesBecome, Lends, parts_at, has_pass, HasWords}
+use Rattle.wp_novel.specs.Dealing.{IsGivenOf, ArePassesFor, TakesPass}
 use Rattle.wp_novel.proofs.PairLemmas.{Homes, same_pair, is_pair_itself, is_same_itself, is_pair-swapped, open_home}
 use Rattle.wp_novel.proofs.HomeLemmas.{Was, stay, was, written_home, same_pairs}
 use Rattle.wp_novel.proofs.PassLemmas.{parts_at-append, no_parts, lends_none, parts_at-one}
@@ -32,14 +32,14 @@ takes_again pair passes homes there = record {
 }
 
 -- the pair has no words
-pub takes_nothing : (pair : Pair) (passes : List JobPass) (old new : Homes) (before after : PassView) → keys_of new ≡ keys_of old → home_of old pair ≡ Some before →
+pub takes_nothing : (pair : Pair) (passes : List JobPass) (old new : Homes) (before after : HomeView) → keys_of new ≡ keys_of old → home_of old pair ≡ Some before →
     ((q : Pair) → home_of new q ≡ cond (is_pair pair q) (Some after) (home_of old q)) → after ≡ before → before.table.words ≡ 0 →
     TakesPass pair passes passes old new
 takes_nothing pair passes old new before after keys found updates same none = record {
   more = [];
   is = sym (append-nil passes);
   homes = written_home (Lends []) old new pair before after keys found updates
-      (subst (λ (h : PassView). Lends [] pair before h) (sym same) (lends_none pair before)) (λ q home apart. lends_none q home);
+      (subst (λ (h : HomeView). Lends [] pair before h) (sym same) (lends_none pair before)) (λ q home apart. lends_none q home);
   given = All-nil (λ (p : JobPass). (p.pair ≡ pair) × IsGivenOf old p);
   few = omega arith;
   none_before = λ some. absurd (omega arith);
@@ -47,9 +47,9 @@ takes_nothing pair passes old new before after keys found updates same none = re
 }
 
 -- a part of the home goes to a new pass
-pub takes_one : (pair : Pair) (passes result : List JobPass) (old new : Homes) (before after : PassView) (pass : PassView) → keys_of new ≡ keys_of old →
+pub takes_one : (pair : Pair) (passes result : List JobPass) (old new : Homes) (before after : HomeView) (pass : PassView) → keys_of new ≡ keys_of old →
     home_of old pair ≡ Some before → ((q : Pair) → home_of new q ≡ cond (is_pair pair q) (Some after) (home_of old q)) →
-    pass ≡ seen before.table [] 1 → after ≡ seen before.table before.marks (before.parts - 1) → 1 ≤ before.table.words →
+    pass ≡ seen before.table [] 1 → after ≡ at_home before.ranking before.table before.marks (before.parts - 1) → 1 ≤ before.table.words →
     has_pass passes (counters_of pair) ≡ false → 1 < before.parts → result ≡ passes ++ record { pair = pair; pass = pass } ∷ [] →
     TakesPass pair passes result old new
 takes_one pair passes result old new before after pass keys found updates given left words none many is = record {
@@ -76,17 +76,19 @@ takes_one pair passes result old new before after pass keys found updates given 
 
     here : Lends (p ∷ []) pair before after
     here = record {
-      table = ap (λ (h : PassView). h.table) left;
-      marks = ap (λ (h : PassView). h.marks) left;
+      ranking = ap (λ (h : HomeView). h.ranking) left;
+      table = ap (λ (h : HomeView). h.table) left;
+      marks = ap (λ (h : HomeView). h.marks) left;
       parts =
           let one : parts_at pair (p ∷ []) ≡ pass.parts = parts_at-one p pair true (is_pair_itself pair) in
           let is_one : pass.parts ≡ 1 = ap (λ (h : PassView). h.parts) given in
-          let less : after.parts ≡ before.parts - 1 = ap (λ (h : PassView). h.parts) left in
+          let less : after.parts ≡ before.parts - 1 = ap (λ (h : HomeView). h.parts) left in
           omega arith;
     }
 
-    elsewhere : (q : Pair) (home : PassView) → is_pair pair q ≡ false → Lends (p ∷ []) q home home
+    elsewhere : (q : Pair) (home : HomeView) → is_pair pair q ≡ false → Lends (p ∷ []) q home home
     elsewhere q home apart = record {
+      ranking = refl;
       table = refl;
       marks = refl;
       parts = let none : parts_at q (p ∷ []) ≡ 0 = parts_at-one p q false (is_pair-swapped q pair ∙ apart) in omega arith;

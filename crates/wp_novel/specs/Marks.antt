@@ -33,11 +33,10 @@ late_size places marks number old new =
     else if (places.width == 2) && list_any (is_late places marks number) (pairs_after old new) then 2
     else places.width + 1
 
--- w is the size of the smallest tuple of the state that no number below the given one was marked at, or width + 1 where
--- there is none
-pub record IsLeastSize (places : Placing) (state : List Bool) (number : ℕ) (marks : List Arrival) (w : ℕ) : Type 0 where
+-- w is the size of the smallest tuple of the state whose first arrival is not below the number, or width + 1 where there is none
+pub record IsLeastSize (places : Placing) (firsts : List ℕ → ℕ) (state : List Bool) (number : ℕ) (w : ℕ) : Type 0 where
   pub range : (1 ≤ w) × (w ≤ places.width + 1)
   pub least : (tuple : List ℕ) → HasPlace places tuple → list_all (has state) tuple ≡ true → length tuple < w →
-      first marks (place_in places tuple) < number
+      firsts tuple < number
   pub attained : (w ≡ places.width + 1) ⊎ ((tuple : List ℕ) × HasPlace places tuple × (list_all (has state) tuple ≡ true) ×
-      (length tuple ≡ w) × (number ≤ first marks (place_in places tuple)))
+      (length tuple ≡ w) × (number ≤ firsts tuple))

@@ -1,16 +1,15 @@
 -- Tables that stand for births: what the marks in novelty tables tell of the nodes that were generated.
 -- The measure is that of Lipovetzky and Geffner (AAAI 2017), for the counters (#g, #r). A birth is a generated node that is no repeat.
--- Where the first arrival at a tuple's place is the least number of a birth that has the tuple, the tuple is new at a birth exactly
+-- Where the first arrival at a tuple is the least number of a birth that has the tuple, the tuple is new at a birth exactly
 -- where that number is not below the birth's own.
 use Rattle.std.specs.Prelude.{◌≡◌, ◌&&◌, ℕ, ◌-◌, ◌^◌, ◌<◌, ◌≤◌, ◌⊎◌, min, Bool, true, false, List, [], ◌∷◌, length, All, Contains, Option, None, option_map, slice_get, if◌then◌else◌}
 use Rattle.std.specs.List.{list_all, list_any, AllPairs}
 use Rattle.std.specs.Option.{option_or}
 use Rattle.wp_task.specs.Set.{has}
 use Rattle.wp_task.specs.Novelty.{Generated}
-use Rattle.wp_tuples.specs.Placing.{HasPlace, place_in}
-use Rattle.wp_arrive.specs.FirstArrival.{first}
+use Rattle.wp_tuples.specs.Placing.{HasPlace}
 use Rattle.wp_novel.specs.Births.{BirthView, is_new}
-use Rattle.wp_novel.specs.NoveltyTables.{NoveltyTables, counters_of, is_same, EachHome, IsOpen}
+use Rattle.wp_novel.specs.NoveltyTables.{NoveltyTables, counters_of, is_same, EachHome, IsOpen, first_at}
 
 -- whether the birth has the counters, and its state the tuple
 abbrev pub has_tuple : ℕ × ℕ → List ℕ → Generated → Bool
@@ -30,10 +29,10 @@ last_number births = option_map (λ b. b.number) (slice_get births (length birth
 abbrev pub last_after : List Generated → Option ℕ → Option ℕ
 last_after births before = option_or (last_number births) before
 
--- the first arrival at the place of each tuple is the number of the first birth that has it
+-- the first arrival at each tuple is the number of the first birth that has it
 abbrev pub AreFirstNumbers : NoveltyTables → List Generated → Type 0
 AreFirstNumbers t births = EachHome (λ pair home.
-    (tuple : List ℕ) → HasPlace t.index tuple → first home.marks (place_in t.index tuple) ≡ first_number births (counters_of pair) tuple) t.homes
+    (tuple : List ℕ) → HasPlace t.index tuple → first_at home tuple ≡ first_number births (counters_of pair) tuple) t.homes
 
 pub record StandsFor (t : NoveltyTables) (births : List Generated) : Type 0 where
   pub rising : AllPairs (λ x y. x.number < y.number) births
@@ -51,7 +50,7 @@ pub record IsFirstNumber (births : List Generated) (counters : ℕ × ℕ) (tupl
 -- each tuple of the birth's state that has no new atom was marked below the bound, in the table of its pair
 abbrev pub AreMarkedBelow : NoveltyTables → ℕ → BirthView → Type 0
 AreMarkedBelow t bound b = EachHome (λ pair home. counters_of pair ≡ b.node.counters → (tuple : List ℕ) → HasPlace t.index tuple →
-    list_all (has b.node.state) tuple ≡ true → list_any (is_new b.fresh) tuple ≡ false → first home.marks (place_in t.index tuple) < bound) t.homes
+    list_all (has b.node.state) tuple ≡ true → list_any (is_new b.fresh) tuple ≡ false → first_at home tuple < bound) t.homes
 
 -- each of them was marked
 abbrev pub AreMarked : NoveltyTables → BirthView → Type 0

@@ -1,7 +1,7 @@
 //! Births: the nodes that are entered into novelty tables.
-ghost use Rattle.std.specs.Prelude.{◌≡◌, ◌∷◌, [], ◌++◌, not, filter, IfOk, OnOk, if◌then◌else◌};
+ghost use Rattle.std.specs.Prelude.{◌≡◌, ◌∷◌, [], ◌++◌, length, not, filter, IfOk, OnOk, if◌then◌else◌};
 ghost use Rattle.wp_task.specs.Set.{atoms_in};
-ghost use Rattle.wp_novel.specs.NoveltyTables.{counters_of};
+ghost use Rattle.wp_novel.specs.NoveltyTables.{counters_of, is_same};
 ghost use Rattle.wp_novel.specs.Births.{is_new};
 ghost use Rattle.wp_novel.specs.MarkedTuples.{new_atoms, old_atoms};
 
@@ -31,7 +31,7 @@ pub struct Birth {
 impl Model for Birth {
     ghost use Rattle.std.specs.Prelude.{◌≡◌, not, filter};
     ghost use Rattle.wp_task.specs.Set.{atoms_in};
-    ghost use Rattle.wp_novel.specs.NoveltyTables.{counters_of};
+    ghost use Rattle.wp_novel.specs.NoveltyTables.{counters_of, is_same};
     ghost use Rattle.wp_novel.specs.Births.{BirthView, is_new};
 
     ghost Value = { BirthView };
@@ -73,6 +73,20 @@ impl Birth {
         ensures { counters_of result ≡ self.now.node.counters }
     {
         self.pair
+    }
+
+    /// Whether it has the pair.
+    pub(crate) fn has_pair(&self, pair: Pair) -> bool
+        ensures { result ≡ is_same self.now.node.counters (counters_of pair) }
+    {
+        self.pair == pair
+    }
+
+    /// How many atoms its state is over.
+    pub(crate) fn size(&self) -> u32
+        ensures { result ≡ length self.now.node.state }
+    {
+        self.state.size()
     }
 
     /// The new atoms of its state, in order.

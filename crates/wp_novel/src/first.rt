@@ -1,5 +1,5 @@
 //! First arrivals: whether a state has a tuple that no number below a given one was marked at.
-ghost use Rattle.std.specs.Prelude.{◌≡◌, ℕ, ◌+◌, ◌^◌, ◌<◌, [], ◌∷◌, List, All, length, map, if◌then◌else◌};
+ghost use Rattle.std.specs.Prelude.{◌≡◌, ℕ, ◌+◌, ◌^◌, ◌<◌, ◌≤◌, [], ◌∷◌, List, All, length, map, if◌then◌else◌};
 ghost use Rattle.std.specs.List.{list_any};
 ghost use Rattle.wp_tuples.specs.Placing.{HasPlace, AreApart};
 ghost use Rattle.wp_novel.specs.MarkedTuples.{pair_of, pairs_after, tuples_with_new};
@@ -19,7 +19,7 @@ pub(crate) fn least_size<P: Places>(
     number: u64,
 ) -> u8
     requires whole { shared.old.parts ≡ 2 ^ 32 }
-    requires words { shared.old.table.words ≡ (P.places index.now).len }
+    requires words { (P.places index.now).len ≤ shared.old.table.words }
     requires tuples { All (HasPlace (P.places index.now)) (tuples_with_new (P.places index.now).width old.now new.now) }
     ensures apart { AreApart (P.places index.now) }
     ensures size { result ≡ late_size (P.places index.now) shared.old.marks number old.now new.now }
@@ -38,7 +38,7 @@ pub(crate) fn least_size<P: Places>(
 /// Whether one of the atoms is such a tuple.
 fn has_late_atom<P: Places>(shared: &mut Shared, index: &P, atoms: &[u32], number: u64) -> bool
     requires whole { shared.old.parts ≡ 2 ^ 32 }
-    requires words { shared.old.table.words ≡ (P.places index.now).len }
+    requires words { (P.places index.now).len ≤ shared.old.table.words }
     requires tuples { All (HasPlace (P.places index.now)) (map (λ p. p ∷ []) atoms.now) }
     ensures late { result ≡ list_any (is_late (P.places index.now) shared.old.marks number) (map (λ p. p ∷ []) atoms.now) }
     ensures same { shared.new ≡ shared.old }
@@ -60,7 +60,7 @@ fn has_late_pair<P: Places>(
     number: u64,
 ) -> bool
     requires whole { shared.old.parts ≡ 2 ^ 32 }
-    requires words { shared.old.table.words ≡ (P.places index.now).len }
+    requires words { (P.places index.now).len ≤ shared.old.table.words }
     requires tuples { All (HasPlace (P.places index.now)) (pairs_after old.now new.now) }
     ensures late { result ≡ list_any (is_late (P.places index.now) shared.old.marks number) (pairs_after old.now new.now) }
     ensures same { shared.new ≡ shared.old }
@@ -85,7 +85,7 @@ fn has_late_with<P: Places>(
     number: u64,
 ) -> bool
     requires whole { shared.old.parts ≡ 2 ^ 32 }
-    requires words { shared.old.table.words ≡ (P.places index.now).len }
+    requires words { (P.places index.now).len ≤ shared.old.table.words }
     requires tuples { All (HasPlace (P.places index.now)) (map (λ p. pair_of p q) atoms.now) }
     ensures late { result ≡ list_any (is_late (P.places index.now) shared.old.marks number) (map (λ p. pair_of p q) atoms.now) }
     ensures same { shared.new ≡ shared.old }

@@ -16,6 +16,7 @@ pub mod birth;
 mod deal;
 pub mod error;
 mod first;
+mod grow;
 mod home;
 pub mod job;
 pub mod laws;

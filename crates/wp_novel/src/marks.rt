@@ -1,13 +1,14 @@
 //! Marks: a number goes to the place of each tuple of a state that has a new atom.
-ghost use Rattle.std.specs.Prelude.{◌≡◌, ◌+◌, ◌-◌, ◌^◌, ◌<◌, [], ◌∷◌, ◌++◌, All, length, map};
+ghost use Rattle.std.specs.Prelude.{◌≡◌, ◌+◌, ◌-◌, ◌^◌, ◌<◌, ◌≤◌, [], ◌∷◌, ◌++◌, All, length, map};
 ghost use Rattle.wp_tuples.specs.Placing.{HasPlace};
+ghost use Rattle.wp_tuples.specs.Ranking.{ranked};
 ghost use Rattle.wp_arrive.specs.Rule.{latest};
 ghost use Rattle.wp_arrive.specs.Seen.{seen};
 ghost use Rattle.wp_novel.specs.NoveltyTables.{counters_of, EachHome};
 ghost use Rattle.wp_novel.specs.MarkedTuples.{pair_of, pairs_after, tuples_with_new};
 ghost use Rattle.wp_novel.specs.Marks.{marks_at, birth_marks, marks_for};
 ghost use Rattle.wp_novel.specs.Jobs.{worked_pass, worked_job};
-ghost use Rattle.wp_novel.specs.Dealing.{CanMark, CanBeMarked};
+ghost use Rattle.wp_novel.specs.Dealing.{CanMark, CanBeMarked, CanBeMarkedIn, IsOfPair};
 
 use crate::birth::{Birth, Pair};
 use crate::home::Home;
@@ -18,47 +19,37 @@ use wp_arrive::{Arrivals, Pass};
 use wp_tuples::Places;
 
 /// Works a job: marks its births, each by the pass of its pair.
-pub(crate) fn mark_job<P: Places>(homes: &IndexMap<Pair, Home>, index: &P, job: &mut MarkJob)
-    requires homes { EachHome (λ pair home. home.table.words ≡ (P.places index.now).len) homes.now.entries }
+pub(crate) fn mark_job(homes: &IndexMap<Pair, Home>, job: &mut MarkJob)
+    requires homes { EachHome (λ pair home. (ranked home.ranking).len ≤ home.table.words) homes.now.entries }
     requires passes { All (CanMark homes.now.entries) job.old.passes }
-    requires births { All (CanBeMarked (P.places index.now)) job.old.births }
-    ensures { job.new ≡ worked_job (P.places index.now) job.old }
+    requires births { All (CanBeMarkedIn homes.now.entries) job.old.births }
+    ensures { job.new ≡ worked_job homes.now.entries job.old }
 {
-    mark_passes(homes, index, &job.births, &mut job.passes);
+    mark_passes(homes, &job.births, &mut job.passes);
     job.worked = true;
 }
 
-fn mark_passes<P: Places>(
-    homes: &IndexMap<Pair, Home>,
-    index: &P,
-    births: &[Birth],
-    passes: &mut Vec<JobPass>,
-)
-    requires homes { EachHome (λ pair home. home.table.words ≡ (P.places index.now).len) homes.now.entries }
+fn mark_passes(homes: &IndexMap<Pair, Home>, births: &[Birth], passes: &mut Vec<JobPass>)
+    requires homes { EachHome (λ pair home. (ranked home.ranking).len ≤ home.table.words) homes.now.entries }
     requires passes { All (CanMark homes.now.entries) passes.old.items }
-    requires births { All (CanBeMarked (P.places index.now)) births.now }
-    ensures { passes.new.items ≡ map (worked_pass (P.places index.now) births.now) passes.old.items }
+    requires births { All (CanBeMarkedIn homes.now.entries) births.now }
+    ensures { passes.new.items ≡ map (worked_pass homes.now.entries births.now) passes.old.items }
 {
     for place in 0..passes.len() {
-        mark_pass(homes, index, births, &mut passes[place]);
+        mark_pass(homes, births, &mut passes[place]);
     }
 }
 
 /// Marks those of the births that have the pair of the pass.
-fn mark_pass<P: Places>(
-    homes: &IndexMap<Pair, Home>,
-    index: &P,
-    births: &[Birth],
-    job_pass: &mut JobPass,
-)
-    requires homes { EachHome (λ pair home. home.table.words ≡ (P.places index.now).len) homes.now.entries }
+fn mark_pass(homes: &IndexMap<Pair, Home>, births: &[Birth], job_pass: &mut JobPass)
+    requires homes { EachHome (λ pair home. (ranked home.ranking).len ≤ home.table.words) homes.now.entries }
     requires pass { CanMark homes.now.entries job_pass.old }
-    requires births { All (CanBeMarked (P.places index.now)) births.now }
-    ensures { job_pass.new ≡ worked_pass (P.places index.now) births.now job_pass.old }
+    requires births { All (CanBeMarkedIn homes.now.entries) births.now }
+    ensures { job_pass.new ≡ worked_pass homes.now.entries births.now job_pass.old }
 {
     let pair = job_pass.pair;
     match homes.get(&pair) {
-        Some(home) => home.mark(index, births, pair, &mut job_pass.pass),
+        Some(home) => home.mark(births, pair, &mut job_pass.pass),
         None => unreachable!(),
     }
 }
@@ -72,9 +63,9 @@ pub(crate) fn mark_births<P: Places>(
     pass: &mut Pass,
 )
     requires table { pass.old.table ≡ arrivals.now }
-    requires words { arrivals.now.words ≡ (P.places index.now).len }
+    requires words { (P.places index.now).len ≤ arrivals.now.words }
     requires part { 0 < pass.old.parts }
-    requires births { All (CanBeMarked (P.places index.now)) births.now }
+    requires births { All (IsOfPair pair (CanBeMarked (P.places index.now))) births.now }
     ensures { pass.new ≡ seen pass.old.table (pass.old.marks ++ marks_for (P.places index.now) (counters_of pair) births.now) pass.old.parts }
 {
     for birth in births {
@@ -85,12 +76,12 @@ pub(crate) fn mark_births<P: Places>(
 /// Marks a birth, where it has the pair.
 fn mark_birth<P: Places>(arrivals: &Arrivals, index: &P, birth: &Birth, pair: Pair, pass: &mut Pass)
     requires table { pass.old.table ≡ arrivals.now }
-    requires words { arrivals.now.words ≡ (P.places index.now).len }
+    requires words { (P.places index.now).len ≤ arrivals.now.words }
     requires part { 0 < pass.old.parts }
-    requires birth { CanBeMarked (P.places index.now) birth.now }
+    requires birth { IsOfPair pair (CanBeMarked (P.places index.now)) birth.now }
     ensures { pass.new ≡ seen pass.old.table (pass.old.marks ++ birth_marks (P.places index.now) (counters_of pair) birth.now) pass.old.parts }
 {
-    if birth.pair() == pair {
+    if birth.has_pair(pair) {
         mark_tuples(
             arrivals,
             index,
@@ -113,7 +104,7 @@ fn mark_tuples<P: Places>(
     pass: &mut Pass,
 )
     requires table { pass.old.table ≡ arrivals.now }
-    requires words { arrivals.now.words ≡ (P.places index.now).len }
+    requires words { (P.places index.now).len ≤ arrivals.now.words }
     requires part { 0 < pass.old.parts }
     requires tuples { All (HasPlace (P.places index.now)) (tuples_with_new (P.places index.now).width old.now new.now) }
     requires number { number < 2 ^ 63 }
@@ -138,7 +129,7 @@ fn mark_atoms<P: Places>(
     pass: &mut Pass,
 )
     requires table { pass.old.table ≡ arrivals.now }
-    requires words { arrivals.now.words ≡ (P.places index.now).len }
+    requires words { (P.places index.now).len ≤ arrivals.now.words }
     requires part { 0 < pass.old.parts }
     requires tuples { All (HasPlace (P.places index.now)) (map (λ p. p ∷ []) atoms.now) }
     requires number { number < 2 ^ 63 }
@@ -161,7 +152,7 @@ fn mark_pairs<P: Places>(
     pass: &mut Pass,
 )
     requires table { pass.old.table ≡ arrivals.now }
-    requires words { arrivals.now.words ≡ (P.places index.now).len }
+    requires words { (P.places index.now).len ≤ arrivals.now.words }
     requires part { 0 < pass.old.parts }
     requires tuples { All (HasPlace (P.places index.now)) (pairs_after old.now new.now) }
     requires number { number < 2 ^ 63 }
@@ -185,7 +176,7 @@ fn mark_with<P: Places>(
     pass: &mut Pass,
 )
     requires table { pass.old.table ≡ arrivals.now }
-    requires words { arrivals.now.words ≡ (P.places index.now).len }
+    requires words { (P.places index.now).len ≤ arrivals.now.words }
     requires part { 0 < pass.old.parts }
     requires tuples { All (HasPlace (P.places index.now)) (map (λ p. pair_of p q) atoms.now) }
     requires number { number < 2 ^ 63 }

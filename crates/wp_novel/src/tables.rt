@@ -12,6 +12,7 @@ ghost use Rattle.wp_novel.specs.Jobs.{births_of, worked_job, IsReady, IsJobOf, A
 use crate::birth::{Birth, Births, Pair};
 use crate::deal::{fill_all, join_all, numbers_of, shares_of};
 use crate::error::PairError;
+use crate::grow::{grow_all, growths_for};
 use crate::home::Home;
 use crate::job::{MarkJob, MarkJobs};
 use crate::marks::mark_job;
@@ -19,18 +20,15 @@ use indexmap::IndexMap;
 use std::alloc::{AllocError, Global};
 use std::marker::Model;
 use std::mem::replace;
-use wp_arrive::Unmarked;
 use wp_edge::{Gate, JobName};
 use wp_tuples::Places;
 
-/// Novelty tables over the tuples of an index.
+/// Novelty tables over the tuples of an index. Each pair has words for the tuples of those atoms that came true in it.
 #[derive(Drop)]
 pub struct Tables<P: Places> {
     alloc: Global,
     index: P,
     limit: u64,
-    // What the words of each pair begin as: made with the first pair, and copied into each.
-    unmarked: Unmarked,
     homes: IndexMap<Pair, Home>,
     last: Option<u64>,
     out: Vec<u64>,
@@ -65,7 +63,6 @@ impl<P: Places> Tables<P> {
             alloc,
             index,
             limit,
-            unmarked: Unmarked::new(alloc),
             homes: IndexMap::new(alloc),
             last: None,
             out: Vec::new(alloc),
@@ -73,7 +70,7 @@ impl<P: Places> Tables<P> {
         }
     }
 
-    /// How many words a pair has: one for each tuple.
+    /// How many words a pair may have: one for each tuple.
     pub fn len(&self) -> u64
         ensures value { result ≡ (placed P.places self.now).index.len }
         ensures apart { AreApart (placed P.places self.now).index }
@@ -96,7 +93,8 @@ impl<P: Places> Tables<P> {
         self.homes.len() as u64
     }
 
-    /// Opens a pair, at which nothing was marked yet. After an error the tables are as before.
+    /// Opens a pair, at which nothing was marked yet. It gets words as births are dealt, and counts as if it had all of them. After an
+    /// error the tables are as before.
     pub fn open_pair(&mut self, pair: Pair) -> Result<(), PairError>
         requires { is_open (placed P.places self.old) (counters_of pair) ≡ false }
         ensures opened { OnOk result (IsOpened pair (placed P.places self.old) (placed P.places self.new)) }
@@ -113,8 +111,7 @@ impl<P: Places> Tables<P> {
         if need > self.limit {
             return Err(PairError::Words { need });
         }
-        self.unmarked.fit(self.alloc, tuples)?;
-        let home = Home::new(self.alloc, &self.unmarked)?;
+        let home = Home::new(self.alloc, self.index.width());
         add(&mut self.homes, pair, home)?;
         Ok(())
     }
@@ -141,7 +138,9 @@ impl<P: Places> Tables<P> {
         let out = numbers_of(self.alloc, &births)?;
         let back = Vec::with_capacity(self.alloc, births.len())?;
         let jobs = Vec::with_capacity(self.alloc, count)?;
+        let growths = growths_for(self.alloc, &mut self.homes, &births)?;
         let shares = shares_of(self.alloc, births, count)?;
+        grow_all(&mut self.homes, growths);
         self.out = out;
         self.back = back;
         Ok(MarkJobs::of_vec(fill_all(&mut self.homes, shares, jobs)))
@@ -151,10 +150,10 @@ impl<P: Places> Tables<P> {
     /// no memory and waits for no other worker.
     pub fn work<G: Gate>(&self, job: &mut MarkJob, gate: &G)
         requires { IsJobOf (placed P.places self.now) false job.old }
-        ensures worked { job.new ≡ worked_job (P.places self.now.index) job.old }
+        ensures worked { job.new ≡ worked_job self.now.homes job.old }
     {
         pass_gate(job, gate);
-        mark_job(&self.homes, &self.index, job);
+        mark_job(&self.homes, job);
     }
 
     /// Takes all jobs that are out back, and gives their births one after another. It takes no memory.
@@ -185,7 +184,7 @@ impl<P: Places> Tables<P> {
         ensures same { self.new ≡ self.old }
     {
         match self.homes.get_mut(&birth.pair()) {
-            Some(home) => home.least_size(&self.index, birth),
+            Some(home) => home.least_size(birth),
             None => unreachable!(),
         }
     }

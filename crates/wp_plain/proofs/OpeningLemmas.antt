@@ -11,7 +11,7 @@ use Rattle.wp_plain.specs.declared.settings.Settings.{Settings}
 use Rattle.wp_plain.specs.declared.explored.Way.{Way}
 use Rattle.wp_plain.specs.declared.explored.Explored.{Explored}
 use Rattle.wp_plain.specs.Nodes.{Node}
-use Rattle.wp_plain.specs.Expansion.{path_counters, generated_at, root_of}
+use Rattle.wp_plain.specs.Expansion.{path_counters, generated_at, root_node}
 use Rattle.wp_plain.specs.Run.{opening}
 use Rattle.wp_plain.specs.Explored.{node_at, way_at, lists_of, Lists, IsReached, AreReached, StandsFor}
 use Rattle.wp_plain.proofs.NodeLemmas.{novelty-earlier}
@@ -34,12 +34,12 @@ module _ (task : PlanningTask) (settings : Settings) (counts : MarksCount)
       ∙ (λ j. (let x : Generated = record { number = 0; counters = (counters.unmet j, counters.relaxed j); state = task.init } in x))
 
   pub root-node : (x : Generated) (w : ℕ) → x ≡ generated_at (path_counters task) [] 0 task.init → w ≡ novelty_of settings.width [] x →
-      ◌≡◌ {A = Node} (record { generated = x; w = w; kept = true; waits = true }) (root_of task settings)
+      ◌≡◌ {A = Node} (record { generated = x; w = w; kept = true; waits = true }) (root_node task settings)
   root-node x w x_is w_is =
       let novelty = w_is ∙ (ap (novelty_of settings.width []) x_is ∙ alone settings.width (generated_at (path_counters task) [] 0 task.init)) in
       λ j. (let n : Node = record { generated = x_is j; w = novelty j; kept = true; waits = true } in n)
 
-  root-reached : IsReached task (opening task settings).paths (relaxed_atoms_of task.acts task.goals task.init ∷ []) 0 (root_of task settings).generated
+  root-reached : IsReached task (opening task settings).paths (relaxed_atoms_of task.acts task.goals task.init ∷ []) 0 (root_node task settings).generated
       (record { back = None; mark = root_mark task })
   root-reached = record {
     numbered = refl;
@@ -51,10 +51,10 @@ module _ (task : PlanningTask) (settings : Settings) (counts : MarksCount)
   }
 
   pub opening-stands : (e : Explored) (mark : Mark) (track : List ℕ) → mark ≡ root_mark task → track ≡ relaxed_atoms_of task.acts task.goals task.init →
-      e.nodes.items ≡ root_of task settings ∷ [] → e.ways.items ≡ record { back = None; mark = mark } ∷ [] → e.tracks.items ≡ track ∷ [] →
+      e.nodes.items ≡ root_node task settings ∷ [] → e.ways.items ≡ record { back = None; mark = mark } ∷ [] → e.tracks.items ≡ track ∷ [] →
       e.pairs.items ≡ (mark.g, mark.r) ∷ [] → e.expanded ≡ 0 → e.repeats ≡ 0 → StandsFor task e (opening task settings)
   opening-stands e mark track mark_is track_is nodes ways tracks pairs expanded repeats =
-      let root : List Node = root_of task settings ∷ [] in
+      let root : List Node = root_node task settings ∷ [] in
       let kept : Lists = record {
         nodes = root;
         ways = record { back = None; mark = root_mark task } ∷ [];

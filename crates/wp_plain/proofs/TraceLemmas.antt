@@ -13,7 +13,7 @@ use Rattle.wp_count.specs.Counters.{after_base, base_atoms, base_of, in_some, is
 use Rattle.wp_plain.specs.declared.settings.Settings.{Settings}
 use Rattle.wp_plain.specs.declared.ending.How.{How}
 use Rattle.wp_plain.specs.Nodes.{Node, Path, path_at, extended, states_kept, left}
-use Rattle.wp_plain.specs.Expansion.{path_counters, root_of, successors_of}
+use Rattle.wp_plain.specs.Expansion.{path_counters, root_node, successors_of}
 use Rattle.wp_plain.specs.Run.{Moment, opening, run, fresh_at, all_at}
 use Rattle.wp_plain.specs.Numbers.{IsNumbered}
 use Rattle.wp_plain.proofs.UnseenLemmas.{unseen-sub}
@@ -136,7 +136,7 @@ traced-opening : (task : PlanningTask) (settings : Settings) → AreTraced task 
 traced-opening task settings =
     let path : Path = record { acts = []; states = task.init ∷ [] } in
     let sizes : AreSized (length task.init) (task.init ∷ []) = λ s. elim [ inl same ↦ ap length same | inr none ↦ absurd none ] in
-    let root : IsTraced task (root_of task settings) path = record {
+    let root : IsTraced task (root_node task settings) path = record {
       leads = refl;
       unmet = refl;
       few = counter-few task (length task.init) (task.init ∷ []) sizes;

@@ -81,8 +81,8 @@ abbrev pub node_of : Settings → List Generated → Generated → Node
 node_of settings nodes x = with_novelty settings x (novelty_of settings.width nodes x)
 
 -- the root, which has no parent
-abbrev pub root_of : PlanningTask → Settings → Node
-root_of task settings = record {
+abbrev pub root_node : PlanningTask → Settings → Node
+root_node task settings = record {
   generated = generated_at (path_counters task) [] 0 task.init;
   w = novelty_of settings.width (generated_at (path_counters task) [] 0 task.init ∷ []) (generated_at (path_counters task) [] 0 task.init);
   kept = true;

@@ -13,7 +13,7 @@ use Rattle.wp_plain.specs.declared.ending.How.{How}
 use Rattle.wp_plain.specs.declared.ending.How.TheVariants.{Found, Emptied, Budget, Words}
 use Rattle.wp_plain.specs.Nodes.{Node, Path, Successor, left, path_at, extended, generated_in, states_kept, first_waiting}
 use Rattle.wp_plain.specs.Pairs.{pairs_in, exceeds}
-use Rattle.wp_plain.specs.Expansion.{successors_of, unseen, path_counters, fresh_of, node_of, root_of, borns_of, event_of}
+use Rattle.wp_plain.specs.Expansion.{successors_of, unseen, path_counters, fresh_of, node_of, root_node, borns_of, event_of}
 
 -- a moment of the search: all numbered nodes by number, the paths to them, and the events so far
 pub record Moment : Type 0 where
@@ -99,7 +99,7 @@ run_from task settings tuples (suc steps) m = elim (step task settings tuples m)
 -- the opening moment has the root alone
 abbrev pub opening : PlanningTask → Settings → Moment
 opening task settings = record {
-  nodes = root_of task settings ∷ [];
+  nodes = root_node task settings ∷ [];
   paths = record { acts = []; states = task.init ∷ [] } ∷ [];
   events = [];
 }

@@ -55,7 +55,7 @@ pub fn plain_search(
     }
     let run = Run::of(alloc, task, *settings, tuples);
     let mut explored = opening(alloc, task, settings)?;
-    search_from(&run, &mut explored, watchers)
+    search_from(&run, &mut explored, &mut (), watchers)
 }
 
 /// The root alone.
@@ -91,19 +91,21 @@ impl BestFirst for Explored {
 
     type Expansion = Expansion;
 
-    ghost stands = { λ e asked m. StandsFor asked.task e m };
+    type Lent = ();
 
-    ghost holds = { λ e asked m. StandsFor asked.task e m };
+    ghost stands = { λ e lent asked m. StandsFor asked.task e m };
 
-    ghost has_taken = { λ e asked m node number. IsTakenAt asked.task e m node number };
+    ghost holds = { λ e lent asked m. StandsFor asked.task e m };
 
-    ghost has_evaluated = { λ e asked m node number x. IsEvaluatedAt asked.task e m node number x };
+    ghost has_taken = { λ e lent asked m node number. IsTakenAt asked.task e m node number };
 
-    ghost standing_holds = { λ e asked m stands. stands };
+    ghost has_evaluated = { λ e lent asked m node number x. IsEvaluatedAt asked.task e m node number x };
 
-    ghost taken_holds = { λ e asked m node number taken. taken.stands };
+    ghost standing_holds = { λ e lent asked m stands. stands };
 
-    ghost evaluated_holds = { λ e asked m node number x evaluated. evaluated.taken.stands };
+    ghost taken_holds = { λ e lent asked m node number taken. taken.stands };
+
+    ghost evaluated_holds = { λ e lent asked m node number x evaluated. evaluated.taken.stands };
 
     fn take(&mut self) -> Option<u64> {
         match first_waiting(&self.nodes) {
@@ -133,7 +135,12 @@ impl BestFirst for Explored {
         }
     }
 
-    fn evaluate(&mut self, run: &Run, number: u64) -> Result<(u64, Expansion), AllocError> {
+    fn evaluate(
+        &mut self,
+        run: &Run,
+        _lent: &(),
+        number: u64,
+    ) -> Result<(u64, Expansion), AllocError> {
         // By the law of the counters those of the children are those of their whole paths.
         counters_are_carried();
         let brood = brood_at(run.alloc(), self, run.task(), number as usize)?;
@@ -154,6 +161,7 @@ impl BestFirst for Explored {
     fn admit(
         &mut self,
         run: &Run,
+        _lent: &mut (),
         number: u64,
         expansion: Expansion,
         wanted: bool,

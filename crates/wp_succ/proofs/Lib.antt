@@ -1,4 +1,3 @@
 pub mod ReachedLemmas
 pub mod CountLemmas
 pub mod NeedLemmas
-pub mod WalkLemmas

@@ -15,17 +15,17 @@ use wp_task::Task;
 #[derive(Drop)]
 pub(crate) struct Step {
     pub(crate) acts: Vec<u32>,
-    pub(crate) yes: Option<u64>,
+    /// How many nodes there were when the way went on.
+    pub(crate) before: usize,
     pub(crate) atom: u32,
 }
 
-/// The nodes so far, the open way, and what there is at its end.
+/// The nodes so far, the open way, and the actions at its end.
 #[derive(Drop)]
 pub(crate) struct Growing {
     pub(crate) nodes: Vec<Node>,
     pub(crate) way: Vec<Step>,
     pub(crate) acts: Vec<u32>,
-    pub(crate) yes: Option<u64>,
 }
 
 impl Growing {
@@ -39,7 +39,6 @@ impl Growing {
             nodes: Vec::new(alloc),
             way: Vec::new(alloc),
             acts: Vec::new(alloc),
-            yes: None,
         }
     }
 
@@ -54,20 +53,9 @@ impl Growing {
         let Some(step) = self.way.pop() else {
             return Ok(());
         };
-        let Step {
-            acts,
-            yes: rest,
-            atom,
-        } = step;
-        let number = self.nodes.len() as u64;
+        let Step { acts, before, atom } = step;
         let acts = mem::replace(&mut self.acts, acts);
-        let yes = mem::replace(&mut self.yes, Some(number));
-        self.nodes.push(Node {
-            atom,
-            acts,
-            yes,
-            rest,
-        })?;
+        self.nodes.push(Node { atom, before, acts })?;
         Ok(())
     }
 
@@ -92,8 +80,8 @@ impl Growing {
         ensures same { OnOk result ((s : List Bool) → reached_so_far s self.new ≡ reached_so_far s self.old) }
     {
         let acts = mem::replace(&mut self.acts, Vec::new(alloc));
-        let yes = mem::replace(&mut self.yes, None);
-        self.way.push(Step { acts, yes, atom })?;
+        let before = self.nodes.len();
+        self.way.push(Step { acts, before, atom })?;
         Ok(())
     }
 

@@ -3,9 +3,9 @@
 //! Actions whose preconditions begin alike share the nodes of these atoms, so an atom that is not true cuts off all of them at
 //! once. The order of the atoms is their numbers': the tree is a trie of the lists of preconditions. An index by atoms
 //! with a count for each action would be the other way; it touches every action that needs a true atom.
-ghost use Rattle.std.specs.Prelude.{◌≡◌, ◌++◌, [], Bool, List, map, length, option_to_list, IfOk, OnOk, IsTrue, if◌then◌else◌};
+ghost use Rattle.std.specs.Prelude.{◌≡◌, ◌++◌, [], Bool, List, map, length, IfOk, OnOk, IsTrue, if◌then◌else◌};
 ghost use Rattle.wp_succ.specs.Serving.{are_preconditions_of};
-ghost use Rattle.wp_succ.specs.Tree.{below, reached_by_nodes, AreApplicable, IsEarlier, AreLinked};
+ghost use Rattle.wp_succ.specs.Tree.{among, reached_by_count, AreApplicable, AreLinked};
 
 use crate::growing::{Growing, grown};
 use crate::successors::Successors;
@@ -17,11 +17,10 @@ use wp_task::{Atoms, State, Task};
 #[derive(Drop)]
 pub(crate) struct Node {
     pub(crate) atom: u32,
+    /// How many nodes lie before those below it, which lie right before it.
+    pub(crate) before: usize,
     /// The actions whose last precondition it is.
     pub(crate) acts: Vec<u32>,
-    /// Where to go on only if the atom is true, and where in any case.
-    pub(crate) yes: Option<u64>,
-    pub(crate) rest: Option<u64>,
 }
 
 /// The decision tree of a task.
@@ -29,7 +28,6 @@ pub(crate) struct Node {
 pub struct Tree {
     nodes: Vec<Node>,
     always: Vec<u32>,
-    first: Option<u64>,
     atoms: u32,
     count: u32,
 }
@@ -55,17 +53,15 @@ impl Tree {
             nodes,
             way: _,
             acts,
-            yes,
         } = grown(alloc, task)?;
-        Ok(tree_of(task, nodes, acts, yes))
+        Ok(tree_of(task, nodes, acts))
     }
 }
 
 /// The tree of these nodes, which reach what applies.
-fn tree_of(task: &Task, nodes: Vec<Node>, always: Vec<u32>, first: Option<u64>) -> Tree
+fn tree_of(task: &Task, nodes: Vec<Node>, always: Vec<u32>) -> Tree
     requires linked { AreLinked nodes.items }
-    requires first { IsEarlier (length nodes.items) first }
-    requires whole { (s : List Bool) → AreApplicable (map (λ act. act.pre) task.now.acts) s (always.items ++ below (reached_by_nodes s nodes.items) first) }
+    requires whole { (s : List Bool) → AreApplicable (map (λ act. act.pre) task.now.acts) s (always.items ++ among (reached_by_count s nodes.items) (length nodes.items)) }
     ensures { result ≡ map (λ act. act.pre) task.now.acts }
 {
     let atoms = task.atoms();
@@ -73,7 +69,6 @@ fn tree_of(task: &Task, nodes: Vec<Node>, always: Vec<u32>, first: Option<u64>) 
     Tree {
         nodes,
         always,
-        first,
         atoms,
         count,
     }
@@ -86,58 +81,40 @@ impl Successors for Tree {
         let _ = task;
         let nodes = self.nodes.as_slice();
         let always = self.always.as_slice();
-        let mut found = reached(alloc, nodes, always, self.first, s)?;
+        let mut found = reached(alloc, nodes, always, s)?;
         found.sort_unstable();
         Ok(Atoms::of_vec(found))
     }
 }
 
 /// The actions that are reached in a state.
-fn reached(
-    alloc: Global,
-    nodes: &[Node],
-    always: &[u32],
-    first: Option<u64>,
-    s: &State,
-) -> Result<Vec<u32>, AllocError>
-    requires linked { AreLinked nodes.now }
-    requires first { IsEarlier (length nodes.now) first }
-    ensures { IfOk result (λ found. found.items ≡ always.now ++ below (reached_by_nodes s.now nodes.now) first) }
+// From the last node to the first: no list of nodes to visit is kept.
+fn reached(alloc: Global, nodes: &[Node], always: &[u32], s: &State) -> Result<Vec<u32>, AllocError>
+    requires { AreLinked nodes.now }
+    ensures { IfOk result (λ found. found.items ≡ always.now ++ among (reached_by_count s.now nodes.now) (length nodes.now)) }
 {
     let mut found = Vec::from_slice(alloc, always)?;
-    let mut visits = Vec::new(alloc);
-    push_branch(&mut visits, first)?;
-    while let Some(k) = visits.pop() {
-        let node = &nodes[k as usize];
-        visit(&mut visits, &mut found, node, s.has(node.atom))?;
+    let mut left = nodes.len();
+    while left > 0 {
+        let node = &nodes[left - 1];
+        left = visit(&mut found, node, left - 1, s.has(node.atom))?;
     }
     Ok(found)
 }
 
-/// Looks at a node of which it is known whether its atom is true.
+/// Looks at a node of which it is known whether its atom is true, and gives how many nodes are left to look at, of those before it.
 fn visit(
-    visits: &mut Vec<u64>,
     found: &mut Vec<u32>,
     node: &Node,
+    earlier: usize,
     holds: bool,
-) -> Result<(), AllocError>
+) -> Result<usize, AllocError>
     ensures found { OnOk result (found.new.items ≡ found.old.items ++ (if holds then node.now.acts.items else [])) }
-    ensures visits { OnOk result (visits.new.items ≡ visits.old.items ++ (option_to_list node.now.rest ++ (if holds then option_to_list node.now.yes else []))) }
+    ensures left { IfOk result (λ left. left ≡ (if holds then earlier else node.now.before)) }
 {
-    push_branch(visits, node.rest)?;
     if holds {
         found.extend_from_slice(node.acts.as_slice())?;
-        push_branch(visits, node.yes)?;
+        return Ok(earlier);
     }
-    Ok(())
-}
-
-/// Where a branch leads is to be visited.
-fn push_branch(visits: &mut Vec<u64>, branch: Option<u64>) -> Result<(), AllocError>
-    ensures { OnOk result (visits.new.items ≡ visits.old.items ++ option_to_list branch) }
-{
-    if let Some(k) = branch {
-        visits.push(k)?;
-    }
-    Ok(())
+    Ok(node.before)
 }

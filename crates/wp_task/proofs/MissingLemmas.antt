@@ -74,6 +74,21 @@ ones_are_bits n (suc w) =
     omega (arith, parts, more, here, ones_are_bits n w) in
     ap (λ k. count_ones (n % 2 ^ k)) (sym one_more) ∙ (ap count_ones split ∙ (all ∙ ap (λ k. sum_by (bit_at n) (range_with_len 0 k)) one))
 
+bit_flag : (bit : ℕ) → bit < 2 → bit ≡ cond (bit == 1) 1 0
+bit_flag bit small = ⊎_elim
+    (λ (none : bit ≡ 0). none ∙ sym (ap (λ b. cond b 1 0) (ne_eqb bit 1 (λ same. omega arith))))
+    (λ (some : bit ≡ 0 → ⊥). let one : bit ≡ 1 = omega arith in one ∙ sym (ap (λ b. cond b 1 0) (eq-eqb bit 1 one)))
+    (cases_eq bit 0)
+
+-- the lowest bits of a word of a list
+pub ones_below : (words : List ℕ) (place w : ℕ) → w ≤ 64 →
+    count_ones (get_or words place 0 % 2 ^ w) ≡ count_by (λ i. bit_in words (64 * place + i)) (range_with_len 0 w)
+ones_below words place w few =
+    ones_are_bits (get_or words place 0) w
+    ∙ sums_agree (bit_at (get_or words place 0)) (λ i. cond (bit_in words (64 * place + i)) 1 0) w
+    (λ i below. bit_flag (bit_at (get_or words place 0) i) (bit_at-lt (get_or words place 0) i)
+    ∙ sym (ap (λ b. cond b 1 0) (bit_in-at words place i (omega arith))))
+
 -- a bit that is wanted and missing
 bit_missing : (want had : ℕ) → want < 2 → had < 2 → min want (1 - had) ≡ cond ((want == 1) && not (had == 1)) 1 0
 bit_missing want had small less = ⊎_elim

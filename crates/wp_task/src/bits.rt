@@ -1,6 +1,7 @@
 //! Sets of atoms packed into words of 64 bits.
-ghost use Rattle.std.specs.Prelude.{◌≡◌, ℕ, ◌+◌, ◌*◌, ◌^◌, ◌<◌, ◌≤◌, ◌==◌, ◌&&◌, ◌||◌, not, true, false, length, slice_index, IfSome, IfNone};
+ghost use Rattle.std.specs.Prelude.{◌≡◌, ℕ, ◌+◌, ◌*◌, ◌/◌, ◌%◌, ◌^◌, ◌<◌, ◌≤◌, ◌==◌, ◌&&◌, ◌||◌, not, true, false, length, slice_index, count_by, IfSome, IfNone};
 ghost use Rattle.std.specs.Int.{bit_at};
+ghost use Rattle.std.specs.List.{range_with_len};
 ghost use Rattle.wp_task.specs.Packing.{bit_in, IsLeastBit, IsNextBit};
 
 /// The word at a place, and 0 past the end.
@@ -15,6 +16,14 @@ pub(crate) fn is_set(words: &[u64], p: u32) -> bool
     ensures { result ≡ bit_in words.now p }
 {
     (word_at(words, (p / 64) as usize) >> (p % 64)) & 1 == 1
+}
+
+/// How many bits of the word of p are set below that of p.
+pub(crate) fn count_in_word(words: &[u64], p: u32) -> u32
+    ensures { result ≡ count_by (λ i. bit_in words.now (64 * (p / 64) + i)) (range_with_len 0 (p % 64)) }
+{
+    let below = (1u64 << (p % 64)) - 1;
+    (word_at(words, (p / 64) as usize) & below).count_ones()
 }
 
 /// The least set bit of a word from a place on.

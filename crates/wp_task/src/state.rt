@@ -1,6 +1,6 @@
 //! States: sets of atoms.
-ghost use Rattle.std.specs.Prelude.{◌≡◌, ◌==◌, ◌&&◌, ◌||◌, not, ℕ, ◌+◌, ◌^◌, ◌<◌, ◌≤◌, true, false, length, replicate, count_by, IfOk, IfSome, IfNone, All};
-ghost use Rattle.std.specs.List.{list_all};
+ghost use Rattle.std.specs.Prelude.{◌≡◌, ◌==◌, ◌&&◌, ◌||◌, not, ℕ, ◌+◌, ◌*◌, ◌/◌, ◌%◌, ◌^◌, ◌<◌, ◌≤◌, true, false, length, replicate, count_by, IfOk, IfSome, IfNone, All};
+ghost use Rattle.std.specs.List.{list_all, range_with_len};
 ghost use Rattle.wp_task.specs.Set.{has, lists, atoms_in, set_of, IsNext};
 
 use crate::atoms::Atoms;
@@ -38,7 +38,8 @@ impl State {
         Ok(state)
     }
 
-    fn empty(alloc: Global, size: u32) -> Result<State, AllocError>
+    /// The set of no atom.
+    pub fn empty(alloc: Global, size: u32) -> Result<State, AllocError>
         ensures { IfOk result (λ state. state ≡ replicate size false) }
     {
         let words = vec![in alloc; 0u64; (size as usize + 63) / 64]?;
@@ -59,6 +60,14 @@ impl State {
         self.size
     }
 
+    /// How many atoms of the set are below p, of those from the last multiple of 64 up to p.
+    pub fn count_in_word(&self, p: u32) -> u32
+        ensures value { result ≡ count_by (λ i. has self.now (64 * (p / 64) + i)) (range_with_len 0 (p % 64)) }
+        ensures few { result < 64 }
+    {
+        bits::count_in_word(self.words.as_slice(), p)
+    }
+
     /// The least atom of the set that is at least `from`.
     pub fn next(&self, from: u32) -> Option<u32>
         ensures found { IfSome result (λ p. IsNext self.now from p) }
@@ -71,7 +80,7 @@ impl State {
     }
 
     /// Puts an atom in.
-    fn insert(&mut self, p: u32)
+    pub fn insert(&mut self, p: u32)
         requires { p < length self.old }
         ensures size { length self.new ≡ length self.old }
         ensures set { (q : ℕ) → has self.new q ≡ (has self.old q || (p == q)) }
@@ -158,6 +167,16 @@ impl State {
         let words = self.words.as_slice();
         let wanted = atoms.words.as_slice();
         lanes::count_missing(words, wanted)
+    }
+
+    /// Becomes equal to another set of as many atoms, in the memory that it has.
+    pub fn copy_from(&mut self, other: &State)
+        requires { length other.now ≡ length self.old }
+        ensures { self.new ≡ other.now }
+    {
+        let words = other.words.as_slice();
+        let _size = other.size;
+        self.words.as_mut_slice().copy_from_slice(words);
     }
 
     /// An equal state.

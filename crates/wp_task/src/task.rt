@@ -168,17 +168,26 @@ impl Task {
     }
 
     /// The state that the action leads to.
-    // Deletes first: an action that deletes and adds an atom leaves it true.
     pub fn apply(&self, alloc: Global, s: &State, a: u32) -> Result<State, AllocError>
         requires number { a < length self.now.acts }
         requires size { length s.now ≡ self.now.atoms }
         ensures { IfOk result (λ next. next ≡ result_of (act_at self.now.acts a) s.now) }
     {
-        let act = self.act(a);
         let mut next = s.copy(alloc)?;
-        next.remove_all(&act.del);
-        next.insert_all(&act.add);
+        self.advance(&mut next, a);
         Ok(next)
+    }
+
+    /// Makes of the state the one that the action leads to, in the memory that it has.
+    // Deletes first: an action that deletes and adds an atom leaves it true.
+    pub fn advance(&self, s: &mut State, a: u32)
+        requires number { a < length self.now.acts }
+        requires size { length s.old ≡ self.now.atoms }
+        ensures { s.new ≡ result_of (act_at self.now.acts a) s.old }
+    {
+        let act = self.act(a);
+        s.remove_all(&act.del);
+        s.insert_all(&act.add);
     }
 
     /// #g of a state: how many goals are not in it.

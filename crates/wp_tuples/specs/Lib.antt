@@ -1,2 +1,3 @@
 pub mod TuplePlaces
 pub mod Placing
+pub mod Ranking

@@ -79,7 +79,7 @@ impl Places for TupleIndex {
 }
 
 /// How many pairs there are of the atoms below a number.
-fn pairs_below(q: u64) -> u64
+pub(crate) fn pairs_below(q: u64) -> u64
     requires { q ≤ 65536 }
     ensures value { result ≡ q * (q - 1) / 2 }
     ensures small { result < 2 ^ 31 }

@@ -11,7 +11,9 @@
 pub mod index;
 pub mod laws;
 pub mod places;
+pub mod ranks;
 
 pub use index::TupleIndex;
 pub use laws::{tuples_are_numbered, tuples_have_places};
 pub use places::Places;
+pub use ranks::Ranks;

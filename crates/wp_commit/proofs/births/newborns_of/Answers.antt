@@ -1,7 +1,6 @@
 use Rattle.std.proofs.Common.{suc, ◌≡◌, ◌∷◌, ◌++◌, List, length, sym, ap, ◌∙◌, subst, arith}
 use Rattle.std.specs.List.{All}
 use Rattle.std.specs.Vec.Iter.{into_iter_items}
-use Rattle.wp_tuples.specs.Placing.{all_placed}
 use Rattle.wp_task.specs.Novelty.{Generated}
 use Rattle.wp_novel.specs.Births.{BirthView}
 use Rattle.wp_novel.specs.NoveltyTables.{placed, IsAtHome}
@@ -13,9 +12,9 @@ use Rattle.wp_commit.proofs.BirthLemmas.{IsLeft, left-next}
 use Rattle.wp_commit.proofs.births.newborns_of.Goals as goal
 
 pub loop-birth-preserved : goal.loop-birth-preserved
-loop-birth-preserved c =
+loop-birth-preserved g c =
     let tables = c.loop-birth.tables in
-    let places = all_placed in
+    let places = g.P.Places.places in
     let same : c.newborn_of-newborn.new.tables ≡ tables = c.newborn_of-newborn.ensures.same in
     let done = c.loop-birth.newborns.items in
     let now = c.push.new.self.items in

@@ -1,7 +1,6 @@
 use Rattle.std.proofs.Common.{◌≡◌, List, false, length, map, sym, ap, ◌∙◌, subst}
 use Rattle.std.specs.List.{All}
 use Rattle.std.proofs.lemmas.List.{length-map}
-use Rattle.wp_tuples.specs.Placing.{all_placed}
 use Rattle.wp_novel.specs.NoveltyTables.{placed}
 use Rattle.wp_novel.specs.Jobs.{JobView, worked_job, IsJobOf}
 use Rattle.wp_ahead.specs.Jobs.{Job, CanWork}
@@ -11,7 +10,7 @@ use Rattle.wp_commit.proofs.marking.work_all.Goals as goal
 
 pub run_phase-requires-clause-marks : goal.run_phase-requires-clause-marks
 run_phase-requires-clause-marks g c κs bounds =
-    subst (All (IsJobOf (placed all_placed c.args.tables.now) false)) (sym (c.as_mut_slice.ensures.value ∙ c.into_vec-marks.ensures)) c.requires.marks
+    subst (All (IsJobOf (placed g.P.Places.places c.args.tables.now) false)) (sym (c.as_mut_slice.ensures.value ∙ c.into_vec-marks.ensures)) c.requires.marks
 
 pub run_phase-requires-clause-aheads : goal.run_phase-requires-clause-aheads
 run_phase-requires-clause-aheads g c κs bounds =
@@ -20,7 +19,7 @@ run_phase-requires-clause-aheads g c κs bounds =
 pub returns-clause-marks : goal.returns-clause-marks
 returns-clause-marks g c =
     let given = c.into_vec-marks.result in
-    let work = worked_job (all_placed c.args.tables.now.index) in
+    let work = worked_job c.args.tables.now.homes in
     let count : length c.run_phase.new.marks ≡ given.len =
     ap (λ (l : List JobView). length l) c.run_phase.ensures.marks ∙ (length-map c.as_mut_slice.result.now work ∙ c.as_mut_slice.ensures.len) in
     c.of_vec.ensures

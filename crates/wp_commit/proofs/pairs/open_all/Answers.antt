@@ -1,20 +1,19 @@
 use Rattle.std.proofs.Common.{arith, ◌≡◌, ◌+◌, ◌*◌, ◌++◌, [], ◌∷◌, ℕ, List, length, map, sym, ap, ◌∙◌, subst, append_assoc}
 use Rattle.std.specs.Vec.Iter.{into_iter_items}
 use Rattle.std.proofs.lemmas.List.{length_push}
-use Rattle.wp_tuples.specs.Placing.{all_placed}
 use Rattle.wp_novel.specs.declared.birth.Pair.{Pair}
 use Rattle.wp_novel.specs.NoveltyTables.{placed, counters_of, open_pairs}
 use Rattle.wp_commit.specs.Newborns.{AreUnopened}
 use Rattle.wp_commit.proofs.pairs.open_all.Goals as goal
 
 pub open-requires-clause-unopened : goal.open-requires-clause-unopened
-open-requires-clause-unopened c =
-    (subst (λ (ps : List Pair). AreUnopened (open_pairs (placed all_placed c.loop-pair.tables)) (map counters_of ps)) c.in-Some.ensures.steps.0 c.loop-pair.invariant.unopened).0
+open-requires-clause-unopened g c κs bounds =
+    (subst (λ (ps : List Pair). AreUnopened (open_pairs (placed g.P.Places.places c.loop-pair.tables)) (map counters_of ps)) c.in-Some.ensures.steps.0 c.loop-pair.invariant.unopened).0
 
 pub loop-pair-preserved : goal.loop-pair-preserved
-loop-pair-preserved c =
-    let was = placed all_placed c.loop-pair.tables in
-    let now = placed all_placed c.open.new.tables in
+loop-pair-preserved g c =
+    let was = placed g.P.Places.places c.loop-pair.tables in
+    let now = placed g.P.Places.places c.open.new.tables in
     let rest = into_iter_items c.next.new.self in
     let held = c.loop-pair.invariant in
     let here = c.in-Some.ensures.steps.0 in

@@ -1,7 +1,5 @@
 use Rattle.std.proofs.Common.{◌≡◌, ◌-◌, ◌∙◌, length, arith}
 use Rattle.std.specs.List.{count_by}
-use Rattle.wp_tuples.specs.Placing.{all_placed}
-use Rattle.wp_novel.specs.NoveltyTables.{placed}
 use Rattle.wp_plain.specs.declared.ending.Counts.{Counts}
 use Rattle.wp_plain.specs.Nodes.{generated_in}
 use Rattle.wp_plain.specs.Pairs.{pairs_in}
@@ -11,19 +9,15 @@ use Rattle.wp_commit.proofs.searched.counts_of.Goals as goal
 
 pub overflow_sub-result : goal.overflow_sub-result
 overflow_sub-result c =
-    let m = c.requires.0 in
-    let holds = c.requires.1 in
+    let m = c.requires.3 in
+    let holds = c.requires.4 in
     omega (arith, kept-few c.args.searched.now.nodes.kept m.nodes holds.nodes.nodes_are, holds.counts.kept, holds.counts.numbered)
 
 pub returns : goal.returns
-returns c m holds =
-    let task = c.args.run.now.task in
-    let settings = c.args.run.now.settings in
+returns c task settings tables m holds open_are =
     let s = c.args.searched.now in
-    let tables = (placed all_placed c.args.tables.now) in
     let kept : s.kept ≡ count_by (λ n. n.kept) m.nodes = holds.counts.kept ∙ kept-count s.nodes.kept m.nodes holds.nodes.nodes_are in
-    let pairs : c.pairs.result ≡ length (pairs_in (generated_in m.nodes)) =
-    c.pairs.ensures.value ∙ pairs-count task settings s tables m holds in
+    let pairs : c.args.pairs ≡ length (pairs_in (generated_in m.nodes)) = open_are ∙ pairs-count task settings s tables m holds in
     λ j. (let counts : Counts = record {
       expanded = holds.counts.expanded j;
       numbered = holds.counts.numbered j;

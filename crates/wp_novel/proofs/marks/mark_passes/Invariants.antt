@@ -4,4 +4,4 @@ use Rattle.wp_novel.proofs.StageLemmas.{stage}
 use Rattle.wp_novel.proofs.marks.mark_passes.Given as goal
 
 abbrev pub invariant-loop-place : goal.invariant-loop-place
-invariant-loop-place g l = l.passes.items ≡ stage (worked_pass (g.P.Places.places l.index) l.births) l.place l.fn.passes.items
+invariant-loop-place l = l.passes.items ≡ stage (worked_pass l.homes.entries l.births) l.place l.fn.passes.items

@@ -18,9 +18,9 @@ returns g c =
     let asked = c.args.run.now in
     let number = c.args.number in
     let search_is = g.S.BestFirst in
-    let taken : Moment → Node → Type 0 = λ m node. search_is.has_taken c.args.search.now asked m node number in
-    let stands : Moment → Type 0 = search_is.stands c.expand.new.search asked in
-    let holds : Moment → Type 0 = search_is.holds c.expand.new.search asked in
+    let taken : Moment → Node → Type 0 = λ m node. search_is.has_taken c.args.search.now c.args.lent.now asked m node number in
+    let stands : Moment → Type 0 = search_is.stands c.expand.new.search c.expand.new.lent asked in
+    let holds : Moment → Type 0 = search_is.holds c.expand.new.search c.expand.new.lent asked in
     let before = places c.args.watchers.now in
     let later = places c.expand.new.watchers in
     IfOk-weaker c.expand.result
@@ -28,8 +28,8 @@ returns g c =
     (λ (how : Option How). StepsAt taken stands holds asked.settings (λ m node. look_at asked.task asked.settings asked.tuples m (Some node)) before later how)
     (λ how went m node at bounded.
     let unmet : node.generated.counters.0 ≡ 0 → ⊥ =
-    eqb-false node.generated.counters.0 0 (sym (c.has_goals.ensures asked m node at) ∙ c.if-has_goals.false) in
-    let counted = c.counts.ensures asked m (g.met.S.BestFirst.taken_holds c.args.search.now asked m node number at) in
+    eqb-false node.generated.counters.0 0 (sym (c.has_goals.ensures c.args.lent.now asked m node at) ∙ c.if-has_goals.false) in
+    let counted = c.counts.ensures c.args.lent.now asked m (g.met.S.BestFirst.taken_holds c.args.search.now c.args.lent.now asked m node number at) in
     let spare : IsSpare asked.settings m = λ spent.
     c.if-counts-settings.false (ap (λ (x : Counts). x.expanded) counted ∙ (spent ∙ sym (ap (λ (s : Settings). s.budget) c.settings.ensures.value))) in
     Steps-same stands holds asked.settings (look_at asked.task asked.settings asked.tuples m (Some node)) (expand asked.task asked.settings asked.tuples m node) m before later how

@@ -12,7 +12,7 @@ pub counts-requires : goal.counts-requires
 counts-requires g c =
     let asked = c.args.run.now in
     let end = c.in_ok-how.ensures (opening asked.task asked.settings) c.requires.opens (bounded-opening asked.task asked.settings) in
-    (asked, end.0, end.1, end.2)
+    (c.take_steps.new.lent, asked, end.0, end.1, end.2)
 
 pub returns : goal.returns
 returns g c =
@@ -23,7 +23,7 @@ returns g c =
     let end = c.in_ok-how.ensures (opening asked.task asked.settings) c.requires.opens (bounded-opening asked.task asked.settings) in
     let ran : end_of asked ≡ (how, end.0) = (is_taken asked.task asked.settings asked.tuples).begins c.requires.few ∙ end.3 in
     record {
-      ending = ending_is asked.task asked.settings asked.tuples how c.counts.result end.0 ran (c.counts.ensures asked end.0 end.1);
-      holds = subst (λ (x : How × Moment). g.S.BestFirst.holds c.take_steps.new.search asked x.1) (sym ran) end.1;
+      ending = ending_is asked.task asked.settings asked.tuples how c.counts.result end.0 ran (c.counts.ensures c.take_steps.new.lent asked end.0 end.1);
+      holds = subst (λ (x : How × Moment). g.S.BestFirst.holds c.take_steps.new.search c.take_steps.new.lent asked x.1) (sym ran) end.1;
       events = λ list untold. told_is asked.task asked.settings asked.tuples how end.0 list (places c.take_steps.new.watchers) ran (end.4 list untold);
     }

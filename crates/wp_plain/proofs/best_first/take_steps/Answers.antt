@@ -17,7 +17,7 @@ returns-in-Some g c m stands bounded =
     let before = places c.loop-step.watchers in
     let later = places c.step.new.watchers in
     let now = c.loop-step.invariant.ran m stands bounded in
-    let went = subst (λ (how : Option How). StepsFrom (g.S.BestFirst.stands c.loop-step.search asked) (g.S.BestFirst.stands c.step.new.search asked) (g.S.BestFirst.holds c.step.new.search asked)
+    let went = subst (λ (how : Option How). StepsFrom (g.S.BestFirst.stands c.loop-step.search c.loop-step.lent asked) (g.S.BestFirst.stands c.step.new.search c.step.new.lent asked) (g.S.BestFirst.holds c.step.new.search c.step.new.lent asked)
     asked.settings (step asked.task asked.settings asked.tuples) before later how) c.in-Some.is c.in_ok-how.ensures now.0 now.1 now.2 in
     let bound = ap (λ (s : Settings). s.budget) c.settings.ensures.value in
     let left : suc (asked.settings.budget - c.loop-step._step) ≡ (asked.settings.budget + 1) - c.loop-step._step = omega (arith, bound) in (
@@ -37,7 +37,7 @@ loop-step-preserved g c =
     let all = run_from asked.task asked.settings asked.tuples in
     let before = places c.loop-step.watchers in
     let later = places c.step.new.watchers in
-    let goes = subst (λ (how : Option How). StepsFrom (g.S.BestFirst.stands c.loop-step.search asked) (g.S.BestFirst.stands c.step.new.search asked) (g.S.BestFirst.holds c.step.new.search asked)
+    let goes = subst (λ (how : Option How). StepsFrom (g.S.BestFirst.stands c.loop-step.search c.loop-step.lent asked) (g.S.BestFirst.stands c.step.new.search c.step.new.lent asked) (g.S.BestFirst.holds c.step.new.search c.step.new.lent asked)
     asked.settings (step asked.task asked.settings asked.tuples) before later how) c.in_default.is c.in_ok-how.ensures in
     let any = c.loop-step.invariant.stands in
     let first = goes any.0 any.1 any.2 in
@@ -66,7 +66,7 @@ returns g c m stands bounded =
     let bound = ap (λ (s : Settings). s.budget) c.settings.ensures.value in
     let none : (asked.settings.budget + 1) - c.loop-step._step ≡ 0 = omega (arith, bound) in (
       now.0,
-      g.met.S.BestFirst.standing_holds c.loop-step.search asked now.0 now.1,
+      g.met.S.BestFirst.standing_holds c.loop-step.search c.loop-step.lent asked now.0 now.1,
       now.2,
       sym now.3 ∙ ap (λ (n : ℕ). run_from asked.task asked.settings asked.tuples n now.0) none,
       now.4,

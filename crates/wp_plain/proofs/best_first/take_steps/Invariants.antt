@@ -11,9 +11,9 @@ invariant-loop-step g l =
     let asked = l.run in
     let stood = g.S.BestFirst.stands in
     record {
-      stands : StandsAtSome (stood l.search asked) asked.settings (places l.watchers);
-      ran : (m : Moment) → stood l.fn.search asked m → IsBounded asked.settings m →
-          (now : Moment) × stood l.search asked now × IsBounded asked.settings now
+      stands : StandsAtSome (stood l.search l.lent asked) asked.settings (places l.watchers);
+      ran : (m : Moment) → stood l.fn.search l.fn.lent asked m → IsBounded asked.settings m →
+          (now : Moment) × stood l.search l.lent asked now × IsBounded asked.settings now
           × (run_from asked.task asked.settings asked.tuples ((asked.settings.budget + 1) - l._step) now ≡ run_from asked.task asked.settings asked.tuples (asked.settings.budget + 1) m)
           × AreTold m.events now.events (places l.fn.watchers) (places l.watchers);
     }

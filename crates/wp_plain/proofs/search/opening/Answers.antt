@@ -6,7 +6,7 @@ use Rattle.wp_count.specs.Broods.{root_mark}
 use Rattle.wp_count.specs.Laws.{IsMarked}
 use Rattle.wp_plain.specs.Nodes.{generated_in}
 use Rattle.wp_plain.specs.declared.explored.Way.{Way}
-use Rattle.wp_plain.specs.Expansion.{path_counters, generated_at, root_of}
+use Rattle.wp_plain.specs.Expansion.{path_counters, generated_at, root_node}
 use Rattle.wp_plain.proofs.OpeningLemmas.{root-generated, root-node, opening-stands}
 use Rattle.wp_plain.proofs.search.opening.Goals as goal
 
@@ -24,7 +24,7 @@ returns c =
     let w_is : c.in_ok-w.w ≡ novelty_of settings.width [] c.of-generated.result =
     c.in_ok-w.ensures.value
     ∙ ap (λ nodes. novelty_of settings.width (generated_in nodes) c.of-generated.result) (c.deref.ensures.value ∙ c.new-nodes.ensures.items) in
-    let node : c.of.result ≡ root_of task settings =
+    let node : c.of.result ≡ root_node task settings =
     c.of.ensures ∙ root-node task settings law.counters marked c.of-generated.result c.in_ok-w.w x_is w_is in
     let mark = c.in_ok-state.mark in
     opening-stands task settings law.counters marked

@@ -10,11 +10,10 @@ pub invariant_of-result : goal.invariant_of-result
 invariant_of-result c =
     let acts = c.args.task.now.acts in
     let fit : All (IsAct c.atoms-atoms.result) acts = subst (λ (n : ℕ). All (IsAct n) acts) (sym c.atoms-atoms.ensures.value) c.atoms-atoms.ensures.fits.act_atoms in
-    let tree : Inside = record { nodes = c.args.nodes; always = c.args.always; first = c.args.first; atoms = c.atoms-atoms.result; count = c.act_count-count.result } in
+    let tree : Inside = record { nodes = c.args.nodes; always = c.args.always; atoms = c.atoms-atoms.result; count = c.act_count-count.result } in
     let is = needs_by_action-is tree acts c.act_count-count.ensures.value fit c.requires.whole in
     record {
       linked = c.requires.linked;
-      first = c.requires.first;
       whole = λ s. subst (λ (needs : List (List ℕ)). AreApplicable needs s (reached_in s tree)) (sym is) (c.requires.whole s);
     }
 
@@ -22,5 +21,5 @@ pub returns : goal.returns
 returns c =
     let acts = c.args.task.now.acts in
     let fit : All (IsAct c.atoms-atoms.result) acts = subst (λ (n : ℕ). All (IsAct n) acts) (sym c.atoms-atoms.ensures.value) c.atoms-atoms.ensures.fits.act_atoms in
-    let tree : Inside = record { nodes = c.args.nodes; always = c.args.always; first = c.args.first; atoms = c.atoms-atoms.result; count = c.act_count-count.result } in
+    let tree : Inside = record { nodes = c.args.nodes; always = c.args.always; atoms = c.atoms-atoms.result; count = c.act_count-count.result } in
     needs_by_action-is tree acts c.act_count-count.ensures.value fit c.requires.whole

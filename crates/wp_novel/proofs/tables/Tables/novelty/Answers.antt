@@ -3,9 +3,8 @@ use Rattle.std.specs.Prelude.{IsSome}
 use Rattle.std.proofs.lemmas.Bool.{both_ways}
 use Rattle.std.proofs.lemmas.Map.Steps.{set_value_same}
 use Rattle.wp_task.specs.Novelty.{novelty_of}
-use Rattle.wp_arrive.specs.Seen.{PassView}
 use Rattle.wp_novel.specs.MarkedTuples.{AreCounted}
-use Rattle.wp_novel.specs.NoveltyTables.{NoveltyTables, TablesOver, placed, AreFilled, IsAtHome, IsOpen, is_among, pairs_of, is_pair, home_of}
+use Rattle.wp_novel.specs.NoveltyTables.{HomeView, NoveltyTables, TablesOver, placed, AreFilled, IsAtHome, IsOpen, is_among, pairs_of, is_pair, home_of}
 use Rattle.wp_novel.specs.StandsFor.{StandsFor, AreMarkedBelow}
 use Rattle.wp_novel.proofs.NewTuples.{novelty_is}
 use Rattle.wp_novel.proofs.PairLemmas.{Homes, open_home}
@@ -21,20 +20,12 @@ unreachable-requires g c =
     both_ways (is_some (home_of homes c.pair.result)) (sym (ap is_some c.in-None.ensures.value)) there
 
 pub least_size-requires-clause-whole : goal.least_size-requires-clause-whole
-least_size-requires-clause-whole g c κs live =
+least_size-requires-clause-whole g c =
     (subst (λ (t : TablesOver g.row.P.Denot). IsAtHome (placed g.P.Places.places t)) (sym c.self.view_is) c.requires.home).whole
     c.pair.result c.in-Some.home.now (sym c.in-Some.ensures.value)
 
 pub least_size-requires-clause-words : goal.least_size-requires-clause-words
-least_size-requires-clause-words g c κs live = c.self.invariant.0.words c.pair.result c.in-Some.home.now (sym c.in-Some.ensures.value)
-
-pub least_size-requires-clause-size : goal.least_size-requires-clause-size
-least_size-requires-clause-size g c κs live =
-    subst (λ (t : TablesOver g.row.P.Denot). length c.args.birth.now.node.state ≡ (placed g.P.Places.places t).index.atoms) (sym c.self.view_is) c.requires.size
-
-pub least_size-requires-clause-counted : goal.least_size-requires-clause-counted
-least_size-requires-clause-counted g c κs live =
-    subst (λ (t : TablesOver g.row.P.Denot). AreCounted (placed g.P.Places.places t).index c.args.birth.now.node.state) (sym c.self.view_is) c.requires.counted
+least_size-requires-clause-words g c = (c.self.invariant.0.homes c.pair.result c.in-Some.home.now (sym c.in-Some.ensures.value)).words
 
 pub invariant_of-self : goal.invariant_of-self
 invariant_of-self g c =
@@ -44,7 +35,7 @@ invariant_of-self g c =
     let same : (c.get_mut.follows.lender c.least_size.new.self).entries ≡ x.homes.entries =
     (c.get_mut.follows.holds c.least_size.new.self).0
     ∙ set_value_same (is_pair c.pair.result) x.homes.entries c.least_size.new.self
-    (sym c.in-Some.ensures.value ∙ sym (ap (λ (h : PassView). Some h) c.least_size.ensures.same)) in
+    (sym c.in-Some.ensures.value ∙ sym (ap (λ (h : HomeView). Some h) c.least_size.ensures.same)) in
     (subst (λ (homes : Homes). AreFilled (of homes)) (sym same) c.self.invariant.0, c.self.invariant.1, c.self.invariant.2)
 
 pub returns-clause-same : goal.returns-clause-same
@@ -53,7 +44,7 @@ returns-clause-same g c =
     let same : (c.get_mut.follows.lender c.least_size.new.self).entries ≡ x.homes.entries =
     (c.get_mut.follows.holds c.least_size.new.self).0
     ∙ set_value_same (is_pair c.pair.result) x.homes.entries c.least_size.new.self
-    (sym c.in-Some.ensures.value ∙ sym (ap (λ (h : PassView). Some h) c.least_size.ensures.same)) in
+    (sym c.in-Some.ensures.value ∙ sym (ap (λ (h : HomeView). Some h) c.least_size.ensures.same)) in
     ap (λ (homes : Homes). let t : TablesOver g.row.P.Denot = record { index = x.index; limit = x.limit; homes = homes; last = x.last; out = x.out.items } in t) same
     ∙ c.self.view_is
 
@@ -69,7 +60,8 @@ returns-clause-value g c = λ births stands among.
     subst (λ (u : TablesOver g.row.P.Denot). length x.node.state ≡ (placed places u).index.atoms) (sym c.self.view_is) c.requires.size in
     let counted : AreCounted t.index x.node.state = subst (λ (u : TablesOver g.row.P.Denot). AreCounted (placed places u).index x.node.state) (sym c.self.view_is) c.requires.counted in
     let marked : AreMarkedBelow t x.node.number x = subst (λ (u : TablesOver g.row.P.Denot). AreMarkedBelow (placed places u) x.node.number x) (sym c.self.view_is) c.requires.marked in
-    let least = c.least_size.ensures.size (λ tuple place all old. marked c.pair.result home found c.pair.ensures tuple place all old) in
+    let width : t.index.width ≡ home.ranking.width = sym (c.self.invariant.0.homes c.pair.result home found).width_is in
+    let least = c.least_size.ensures.size t.index c.self.invariant.0.apart width size counted (λ tuple place all old. marked c.pair.result home found c.pair.ensures tuple place all old) in
     subst (λ (u : TablesOver g.row.P.Denot). c.least_size.result ≡ novelty_of (placed places u).index.width births x.node) c.self.view_is
     (novelty_is t c.pair.result births x.node home c.least_size.result c.self.invariant.0
     (subst (λ (u : TablesOver g.row.P.Denot). StandsFor (placed places u) births) (sym c.self.view_is) stands)

@@ -1,5 +1,5 @@
-use Rattle.std.proofs.Common.{◌++◌, sym, ap, ◌∙◌}
-use Rattle.wp_succ.specs.Tree.{times, below, reached_by_nodes}
+use Rattle.std.proofs.Common.{◌++◌, length, sym, ap, ◌∙◌}
+use Rattle.wp_succ.specs.Tree.{times, among, reached_by_count}
 use Rattle.wp_succ.specs.Growing.{reached_along}
 use Rattle.wp_succ.proofs.NeedLemmas.{serves-same}
 use Rattle.wp_succ.proofs.tree.Tree.of.Goals as goal
@@ -9,10 +9,9 @@ tree_of-requires c =
     let grown = c.in_ok-nodes.field-0 in
     record {
       linked = c.in_ok-nodes.ensures.growing.linked;
-      first = c.in_ok-nodes.ensures.growing.yes;
       whole = λ s a.
-          let lists = reached_by_nodes s grown.nodes.items in
-          ap (λ way. times (reached_along s lists way (grown.acts.items ++ below lists grown.yes)) a) (sym c.in_ok-nodes.ensures.closed)
+          let lists = reached_by_count s grown.nodes.items in
+          ap (λ way. times (reached_along s lists way (grown.acts.items ++ among lists (length grown.nodes.items))) a) (sym c.in_ok-nodes.ensures.closed)
           ∙ c.in_ok-nodes.ensures.whole s a;
     }
 

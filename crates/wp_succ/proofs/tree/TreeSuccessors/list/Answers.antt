@@ -2,7 +2,7 @@ use Rattle.std.proofs.Common.{◌≡◌, ◌==◌, ◌++◌, ◌<◌, ℕ, List,
 use Rattle.std.specs.List.{All}
 use Rattle.std.proofs.lemmas.List.Sorted.{IsNonDecreasingBy-from_sort, sum_by-IsPermutation}
 use Rattle.wp_task.specs.Task.{applicable_in}
-use Rattle.wp_succ.specs.Tree.{times, below, reached_by_nodes, reached_in, AreApplicable}
+use Rattle.wp_succ.specs.Tree.{times, among, reached_by_count, reached_in, AreApplicable}
 use Rattle.wp_succ.proofs.CountLemmas.{once, Rises, Rises-from}
 use Rattle.wp_succ.proofs.NeedLemmas.{applicable-is, applicable-below, served-is}
 use Rattle.wp_succ.proofs.tree.TreeSuccessors.list.Goals as goal
@@ -15,7 +15,7 @@ returns-clause-value c =
     let sorted = c.sort_unstable.new.self.items in
     let found = c.in_ok-found.found.items in
     let is : found ≡ reached_in s tree =
-    c.in_ok-found.ensures ∙ (λ j. c.as_slice-always.ensures.value j ++ below (reached_by_nodes s (c.as_slice-nodes.ensures.value j)) tree.first) in
+    c.in_ok-found.ensures ∙ (λ j. c.as_slice-always.ensures.value j ++ among (reached_by_count s (c.as_slice-nodes.ensures.value j)) (length (c.as_slice-nodes.ensures.value j))) in
     let rises : Rises sorted = Rises-from sorted (λ i j order within. IsNonDecreasingBy-from_sort (λ (k : ℕ). k) sorted c.sort_unstable.ensures.sorted i j 0 order within) in
     let are : AreApplicable needs s sorted = λ a.
     sum_by-IsPermutation (λ k. once (k == a)) found sorted c.sort_unstable.ensures.permutation

@@ -1,0 +1,15 @@
+use Rattle.std.proofs.Common.{◌+◌, Bool, List, length, ap, ◌∙◌, subst}
+use Rattle.wp_tuples.specs.Placing.{AreApart}
+use Rattle.wp_mutex.specs.PairPlaces.{pairs_before, possible_placed}
+use Rattle.wp_mutex.proofs.PlaceLemmas.{possible_apart}
+use Rattle.wp_mutex.proofs.index.PairIndexPlaces.len.Goals as goal
+
+pub returns-clause-apart : goal.returns-clause-apart
+returns-clause-apart c =
+    subst (λ (pairs : List (List Bool)). AreApart (possible_placed pairs)) c.self.view_is
+    (possible_apart c.self.inside.rows.items c.self.invariant.few)
+
+pub returns-clause-value : goal.returns-clause-value
+returns-clause-value c =
+    c.from.ensures
+    ∙ (c.self.invariant.all ∙ ap (λ (pairs : List (List Bool)). length pairs + pairs_before pairs (length pairs)) c.self.view_is)

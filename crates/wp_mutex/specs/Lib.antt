@@ -1,0 +1,4 @@
+pub mod PossiblePairs
+pub mod Laws
+pub mod WorkList
+pub mod PairPlaces
