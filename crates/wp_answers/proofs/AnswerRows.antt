@@ -22,8 +22,8 @@ use Rattle.wp_app.specs.declared.reply.Status.{Status}
 use Rattle.wp_app.specs.declared.reply.Status.TheVariants as statuses
 use Rattle.wp_app.specs.Requests.{Asked}
 use Rattle.wp_app.specs.Steps.{Step, goes}
-use Rattle.wp_app.specs.Output.{answered, domain_in, domain_step, ending_reply, generated_step, grounded_step, items_step, lifted_step, limit_of, made_step, planned_step, problem_in, problem_step, request_step, run_step, searched_reply, within}
-use Rattle.wp_app.specs.Table.{answer_of, answer_sought, answer_to_gen}
+use Rattle.wp_app.specs.Output.{answered, domain_in, domain_step, ending_reply, grounded_step, items_step, lifted_step, limit_of, problem_in, problem_step, request_step, searched_reply, within}
+use Rattle.wp_app.specs.Table.{answer_of, answer_sought, answer_to_gen, answer_to_request, made_step}
 
 -- the words between the spaces of a line, with the watchers that are handed in
 abbrev asked : List ℕ → List (WatchKind × Option ℕ) → Asked
@@ -69,7 +69,7 @@ searches = (
     ∷ []
 
 searches_answered : (files : Contents) → map (λ (row : Row). answer_of (asked row.0 row.1) files) searches ≡ map (λ (row : Row). row.2) searches
-unfolding clap_on_literals plan_line check_line ground_line gen_line entries_of options_in request_step answer_sought answer_to_gen domain_step problem_step items_step domain_in problem_in lifted_step grounded_step searched_reply ending_reply lifting_of schema_of cond_of effect_of atom_of slot_of objects_of object_of ground_atom_of stated_after types_of subtypes_of ending_text ending_line counts_text found_text gen_text domain_text problem_text objects_line init_line goal_line roads_text at_text says tally_text fronts_text front_line digits
+unfolding clap_on_literals plan_line check_line ground_line gen_line entries_of options_in request_step answer_sought answer_to_request answer_to_gen made_step domain_step problem_step items_step domain_in problem_in lifted_step grounded_step searched_reply ending_reply lifting_of schema_of cond_of effect_of atom_of slot_of objects_of object_of ground_atom_of stated_after types_of subtypes_of ending_text ending_line counts_text found_text gen_text domain_text problem_text objects_line init_line goal_line roads_text at_text says tally_text fronts_text front_line digits
 searches_answered files = refl
 
 -- ---- limits

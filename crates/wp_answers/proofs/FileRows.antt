@@ -23,13 +23,14 @@ use Rattle.wp_check.specs.Verdicts.{verdict_of}
 use Rattle.wp_report.specs.Refusals.{lexical_text, kind_text, limit_text, fault_text, refusal_text}
 use Rattle.wp_report.specs.Tasks.{ground_text, atom_line, act_line, ground_error_text}
 use Rattle.wp_report.specs.Verdicts.{verdict_text, why_text}
+use Rattle.wp_app.specs.declared.inputs.Texts.{Texts}
 use Rattle.wp_app.specs.declared.reply.Reply.{Reply}
 use Rattle.wp_app.specs.declared.reply.Status.{Status}
 use Rattle.wp_app.specs.declared.reply.Status.TheVariants as statuses
 use Rattle.wp_app.specs.Requests.{Asked}
 use Rattle.wp_app.specs.Steps.{Step, goes, reply_of, ◌>>=◌}
-use Rattle.wp_app.specs.Output.{check_step, domain_in, domain_step, files_checked_step, files_numbered_step, ground_reply, grounded_step, items_step, judged_step, lifted_step, numbered_step, part_of, plan_step, problem_in, problem_step, request_step, run_step, texts_step, verdict_reply, within}
-use Rattle.wp_app.specs.Table.{answer_of, answer_sought, answer_to_check, answer_to_ground}
+use Rattle.wp_app.specs.Output.{domain_in, domain_step, ground_reply, grounded_step, items_step, lifted_step, part_of, plan_step, problem_in, problem_step, request_step, verdict_reply, within}
+use Rattle.wp_app.specs.Table.{answer_of, answer_sought, answer_to_check, answer_to_ground, answer_to_request, texts_step}
 
 -- what a map of files gives for a name is the first file of the name
 there : (files : List File) (name : List ℕ) → get (contents_of files) name ≡ found files name
@@ -44,18 +45,23 @@ abbrev says : Status → List ℕ → Option Reply
 says status text = Some (record { text = text; status = status })
 
 -- the answers by what is there of each file
+abbrev texts_found : Option (List ℕ) → Option (List ℕ) → Step Texts
+texts_found domain problem =
+    within parts.Domain domain >>= λ (text : List ℕ). domain_step text >>= λ (one : Domain).
+    within parts.Problem problem >>= λ (text : List ℕ). problem_step text
+    >>= λ (two : Problem). goes (record { domain = one; problem = two })
+
 abbrev check_found : Option (List ℕ) → Option (List ℕ) → Option (List ℕ) → Option Reply
 check_found domain problem plan =
-    reply_of (within parts.Domain domain >>= λ (text : List ℕ). domain_step text >>= λ (one : Domain).
-    within parts.Problem problem >>= λ (text : List ℕ). problem_step text >>= λ (two : Problem).
-    within parts.Plan plan >>= λ (text : List ℕ). plan_step text >>= λ (steps : List PlanStep).
-    lifted_step one two >>= λ (lifted : Lifting). goes (verdict_reply lifted steps))
+    reply_of (texts_found domain problem >>= λ (texts : Texts).
+    (within parts.Plan plan >>= λ (text : List ℕ). plan_step text) >>= λ (steps : List PlanStep).
+    lifted_step texts.domain texts.problem >>= λ (lifted : Lifting). goes (verdict_reply lifted steps))
 
 abbrev ground_found : Option (List ℕ) → Option (List ℕ) → Option Reply
 ground_found domain problem =
-    reply_of (within parts.Domain domain >>= λ (text : List ℕ). domain_step text >>= λ (one : Domain).
-    within parts.Problem problem >>= λ (text : List ℕ). problem_step text >>= λ (two : Problem).
-    lifted_step one two >>= λ (lifted : Lifting). grounded_step lifted >>= λ (grounded : Grounded). goes (ground_reply grounded))
+    reply_of (texts_found domain problem >>= λ (texts : Texts).
+    lifted_step texts.domain texts.problem >>= λ (lifted : Lifting). grounded_step lifted
+    >>= λ (grounded : Grounded). goes (ground_reply grounded))
 
 abbrev d : List ℕ
 d = codes "d"
@@ -67,11 +73,11 @@ abbrev q : List ℕ
 q = codes "q"
 
 check_answered : (files : List File) → answer_of (asked (codes "check d p q")) (contents_of files) ≡ check_found (found files d) (found files p) (found files q)
-unfolding clap_on_literals plan_line check_line ground_line gen_line entries_of options_in request_step answer_sought answer_to_check part_of
+unfolding clap_on_literals plan_line check_line ground_line gen_line entries_of options_in request_step answer_sought answer_to_request answer_to_check texts_step part_of
 check_answered files = λ i. check_found (there files d i) (there files p i) (there files q i)
 
 ground_answered : (files : List File) → answer_of (asked (codes "ground d p")) (contents_of files) ≡ ground_found (found files d) (found files p)
-unfolding clap_on_literals plan_line check_line ground_line gen_line entries_of options_in request_step answer_sought answer_to_ground part_of
+unfolding clap_on_literals plan_line check_line ground_line gen_line entries_of options_in request_step answer_sought answer_to_request answer_to_ground texts_step part_of
 ground_answered files = λ i. ground_found (there files d i) (there files p i)
 
 -- ---- rows

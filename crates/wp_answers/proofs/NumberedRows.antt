@@ -4,7 +4,7 @@ use Rattle.std.specs.Fmt.{digits}
 use Rattle.wp_app.specs.declared.reply.Reply.{Reply}
 use Rattle.wp_app.specs.declared.reply.Status.TheVariants.{Done, Refused, OutOfReach}
 use Rattle.wp_app.specs.Steps.{Step, ends, goes, ◌>>=◌}
-use Rattle.wp_app.specs.Output.{domain_step, problem_step, items_step, domain_in, problem_in, lifted_step, grounded_step, numbered_step, ground_reply}
+use Rattle.wp_app.specs.Output.{domain_step, problem_step, items_step, domain_in, problem_in, lifted_step, grounded_step, ground_reply}
 use Rattle.wp_lift.specs.Lifting.{lifting_of, schema_of, cond_of, effect_of, atom_of, slot_of, objects_of, object_of, ground_atom_of, stated_after}
 use Rattle.wp_lift.specs.Typing.{types_of, subtypes_of}
 use Rattle.wp_report.specs.Refusals.{lexical_text, kind_text, limit_text, fault_text, refusal_text}
@@ -14,7 +14,9 @@ unfoldable numbered : List ℕ → List ℕ → Step Reply
 numbered domain problem = do
   domain ← domain_step domain
   problem ← problem_step problem
-  numbered_step (record { domain = domain; problem = problem })
+  lifted ← lifted_step domain problem
+  grounded ← grounded_step lifted
+  goes (ground_reply grounded)
 
 -- a domain and a problem, with the answer
 abbrev Row : Type 0
@@ -61,5 +63,5 @@ tasks = (
     ∷ []
 
 tasks_answered : map (λ (row : Row). numbered row.0 row.1) tasks ≡ map (λ (row : Row). row.2) tasks
-unfolding numbered domain_step problem_step items_step domain_in problem_in lifted_step grounded_step numbered_step ground_reply lifting_of schema_of cond_of effect_of atom_of slot_of objects_of object_of ground_atom_of stated_after types_of subtypes_of ground_text atom_line act_line ground_error_text refusal_text fault_text kind_text limit_text lexical_text digits
+unfolding numbered domain_step problem_step items_step domain_in problem_in lifted_step grounded_step ground_reply lifting_of schema_of cond_of effect_of atom_of slot_of objects_of object_of ground_atom_of stated_after types_of subtypes_of ground_text atom_line act_line ground_error_text refusal_text fault_text kind_text limit_text lexical_text digits
 tasks_answered = refl

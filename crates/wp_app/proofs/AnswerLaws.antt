@@ -12,8 +12,7 @@ use Rattle.wp_lift.specs.Formed.{IsFormed}
 use Rattle.wp_lift.specs.Laws.{LiftingsAreFormed}
 use Rattle.wp_task.specs.Task.{IsTask, is_plan}
 use Rattle.wp_check.specs.PlanFile.{plan_of}
-use Rattle.wp_check.specs.PlanText.{AreComments, line, steps_text}
-use Rattle.wp_check.proofs.PassedPlans.{comments_join}
+use Rattle.wp_check.specs.PlanText.{AreComments, CommentsJoin, line, steps_text}
 use Rattle.wp_check.specs.Printed.{PlansOfTextsAreReadBack, IsReadBack, naming_steps}
 use Rattle.wp_ground.specs.declared.grounding.Grounded.{Grounded}
 use Rattle.wp_ground.specs.Laws.{PlansAreValid, ValidPlansAreNumbered, UnreachedGoalsHaveNoPlan}
@@ -41,26 +40,26 @@ use Rattle.wp_watch.specs.Places.{texts_after}
 use Rattle.wp_words.specs.declared.commands.Command.TheVariants.{Plan}
 use Rattle.wp_app.specs.Requests.{Asked, Request, kept_of}
 use Rattle.wp_app.specs.Steps.{Step, goes, reply_of, ◌>>=◌}
-use Rattle.wp_app.specs.Output.{run_step, files_planned_step, texts_step, lifted_step, planned_step, grounded_step, searched_reply, whole, with_texts, ending_reply, ending_status}
-use Rattle.wp_app.specs.Table.{answer_of}
+use Rattle.wp_app.specs.Output.{lifted_step, grounded_step, searched_reply, whole, with_texts, ending_reply, ending_status}
+use Rattle.wp_app.specs.Table.{answer_of, answer_to_plan, answer_to_request, texts_step}
 use Rattle.wp_app.specs.Laws.{IsLifted, IsSearched, FoundPlansAreReadBack, GoalsOutOfReachHaveNoPlan, EmptiedSearchesHaveNoPlan, SearchesAreBounded, LargeBudgetsAreNotSpent, LargeLimitsAreNotReached}
+use Rattle.wp_app.proofs.PlanLemmas.{after_texts}
 use Rattle.wp_app.proofs.ReplyLemmas.{steps_commanded}
 use Rattle.wp_app.proofs.ChainLemmas.{texts_read, lifted_finely, task_goes, admitted, out_of_reach}
 use Rattle.wp_app.proofs.CommentLemmas.{found_is_comment, texts_are_comments}
 
 -- ---- the reply
 planned : (settings : Settings) (watchers : List (WatchKind × Option ℕ)) (texts : Texts) (lifted : Lifting) (grounded : Grounded) → lifted_step texts.domain texts.problem ≡ goes lifted
-    → grounded_step lifted ≡ goes grounded → planned_step whole settings watchers texts ≡ goes (searched_reply whole settings watchers grounded)
-unfolding planned_step
+    → grounded_step lifted ≡ goes grounded → after_texts whole settings watchers texts ≡ goes (searched_reply whole settings watchers grounded)
 planned settings watchers texts lifted grounded lifts grounds =
     ap (λ (step : Step Lifting). step >>= λ (one : Lifting). grounded_step one >>= λ (task : Grounded). goes (searched_reply whole settings watchers task)) lifts
     ∙ ap (λ (step : Step Grounded). step >>= λ (task : Grounded). goes (searched_reply whole settings watchers task)) grounds
 
 run_plan : (domain problem : List ℕ) (settings : Settings) (watch : List WatchKind) (plain : Bool) (watchers : List (WatchKind × Option ℕ)) (files : Contents) (texts : Texts)
     → texts_step domain problem files ≡ goes texts
-    → run_step (let request : Request = record { command = Plan domain problem settings watch plain; watchers = watchers } in request) files ≡ planned_step whole settings watchers texts
-unfolding run_step files_planned_step
-run_plan domain problem settings watch plain watchers files texts read = ap (λ (step : Step Texts). step >>= λ (one : Texts). planned_step whole settings watchers one) read
+    → answer_to_request (let request : Request = record { command = Plan domain problem settings watch plain; watchers = watchers } in request) files ≡ after_texts whole settings watchers texts
+unfolding answer_to_request answer_to_plan
+run_plan domain problem settings watch plain watchers files texts read = ap (λ (step : Step Texts). step >>= λ (one : Texts). after_texts whole settings watchers one) read
 
 -- what the watchers say of the search of a task
 abbrev said : Settings → List (WatchKind × Option ℕ) → Grounded → List (List ℕ)
@@ -129,8 +128,8 @@ is_formed : LiftingsAreFormed → (asked : Asked) (files : Contents) (settings :
 is_formed are_formed asked files settings lifted of =
     are_formed of.texts.domain of.texts.problem lifted (lifted_finely of.texts.domain of.texts.problem lifted of.lifts)
 
-pub found_read_back : FoundIsPlan → LiftingsAreFormed → PlansAreValid → PlansOfTextsAreReadBack → FoundPlansAreReadBack
-found_read_back found_is_plan are_formed plans_are_valid read_back asked files settings lifted ending plan is found =
+pub found_read_back : FoundIsPlan → LiftingsAreFormed → PlansAreValid → PlansOfTextsAreReadBack → CommentsJoin → FoundPlansAreReadBack
+found_read_back found_is_plan are_formed plans_are_valid read_back join asked files settings lifted ending plan is found =
     let of = is.lifts in
     let formed = is_formed are_formed asked files settings lifted of in
     let task = task_goes lifted is.grounded is.grounds in
@@ -145,8 +144,8 @@ found_read_back found_is_plan are_formed plans_are_valid read_back asked files s
     let line_of = found_text (length plan) ending.counts in
     let comments = line_of ++ more in
     let are_comments : AreComments comments =
-    comments_join line_of more (found_is_comment (length plan) ending.counts)
-    (texts_are_comments (watchers_of asked files settings lifted of) (run is.grounded.task settings (all_tuples is.grounded.task settings)).1.events) in
+    join line_of more (found_is_comment (length plan) ending.counts)
+    (texts_are_comments join (watchers_of asked files settings lifted of) (run is.grounded.task settings (all_tuples is.grounded.task settings)).1.events) in
     let back : IsReadBack lifted (map (instance_at lifted) plan) comments =
     read_back texts.domain_text texts.problem_text of.texts.domain of.texts.problem lifted (map (instance_at lifted) plan) comments
     texts.is_domain texts.is_problem (lifted_finely of.texts.domain of.texts.problem lifted of.lifts) valid.1

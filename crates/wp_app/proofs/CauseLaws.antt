@@ -51,7 +51,8 @@ use Rattle.wp_report.specs.Tasks.{ground_error_text}
 use Rattle.wp_gen.specs.Depot.{domain_text, problem_text}
 use Rattle.wp_app.specs.Requests.{Asked, file_of, kept_of}
 use Rattle.wp_app.specs.Steps.{Step, missing, ends, goes, reply_of, ◌>>=◌}
-use Rattle.wp_app.specs.Output.{answered, ending_reply, ending_status, ground_reply, grounded_step, run_step, searched_reply, task_by, verdict_reply, verdict_status, domain_in, domain_step, items_by, items_step, lifted_by, lifted_step, limit_of, made_step, part_of, plan_step, problem_in, problem_step, record_by, steps_by, texts_step, within}
+use Rattle.wp_app.specs.Output.{answered, ending_reply, ending_status, ground_reply, grounded_step, searched_reply, task_by, verdict_reply, verdict_status, domain_in, domain_step, items_by, items_step, lifted_by, lifted_step, limit_of, part_of, plan_step, problem_in, problem_step, record_by, steps_by, within}
+use Rattle.wp_app.specs.Table.{answer_to_request, made_step, texts_step}
 use Rattle.wp_app.specs.Causes.{HasFaultyFile, HasFaultyNames, HasLongFile, HasTooMany, IsFaulty, IsGrounded, IsReadBefore, LimitsHaveTheirCauses, RefusalsHaveTheirCauses, TasksAreGrounded, reads_files}
 use Rattle.wp_app.specs.Meanings.{AreLifted, IsAnswered, grounds_task, texts_of}
 use Rattle.wp_app.proofs.ChainLemmas.{both, from_problem, itemized, task_goes}
@@ -494,7 +495,7 @@ behind watchers (Check domain problem plan) files texts = (part_of parts.Plan pl
 behind watchers command files texts = after_texts watchers command texts
 
 pub run_row : (command : Command) (watchers : Watching) (files : Contents)
-    → run_step (request_with command watchers) files ≡ (texts_of command files >>= behind watchers command files)
+    → answer_to_request (request_with command watchers) files ≡ (texts_of command files >>= behind watchers command files)
 run_row (Check domain problem plan) watchers files = run_checking domain problem plan watchers files
 run_row (Ground domain problem) watchers files = run_grounding (Ground domain problem) watchers files refl
 run_row (Plan domain problem settings watch plain) watchers files = run_grounding (Plan domain problem settings watch plain) watchers files refl

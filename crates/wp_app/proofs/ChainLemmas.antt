@@ -30,7 +30,8 @@ use Rattle.wp_ground.specs.Refusals.{goal_refusal, grounded_of, refusal_of}
 use Rattle.wp_ground.specs.Tasks.{atoms_of, steps_of}
 use Rattle.wp_app.specs.declared.inputs.Texts.{Texts}
 use Rattle.wp_app.specs.Steps.{Step, missing, ends, goes, ◌>>=◌}
-use Rattle.wp_app.specs.Output.{items_by, items_step, record_by, domain_in, problem_in, domain_step, problem_step, part_of, texts_step, lifted_by, lifted_step, task_by, grounded_step}
+use Rattle.wp_app.specs.Output.{items_by, items_step, record_by, domain_in, problem_in, domain_step, problem_step, part_of, lifted_by, lifted_step, task_by, grounded_step}
+use Rattle.wp_app.specs.Table.{texts_step}
 
 -- two steps in a row go on where each of them does
 through : {A B : Type 0} (step : Step A) (next : A → Step B) (value : B) → (step >>= next) ≡ goes value

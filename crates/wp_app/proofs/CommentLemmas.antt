@@ -8,8 +8,7 @@ use Rattle.std.proofs.lemmas.List.{append-nil}
 use Rattle.std.proofs.lemmas.List.Folds.{list_all-append}
 use Rattle.std.proofs.lemmas.List.Elements.{All-from_recursion}
 use Rattle.wp_plain.specs.declared.ending.Counts.{Counts}
-use Rattle.wp_check.proofs.PassedPlans.{comments_join}
-use Rattle.wp_check.specs.PlanText.{line, is_comment, AreComments}
+use Rattle.wp_check.specs.PlanText.{line, is_comment, AreComments, CommentsJoin}
 use Rattle.wp_watch.specs.declared.event.Born.{Born}
 use Rattle.wp_watch.specs.declared.event.Event.{Event}
 use Rattle.wp_watch.specs.declared.watch.WatchKind.{WatchKind}
@@ -96,9 +95,9 @@ no_comments : AreComments []
 no_comments = ([], All-from_recursion (λ (one : List ℕ). is_comment one ≡ true) [] tt, refl)
 
 -- texts of comments, one behind another
-all_comments : {X : Type 0} (f : X → List ℕ) → ((x : X) → AreComments (f x)) → (xs : List X) → AreComments (flat_map f xs)
-all_comments f each [] = no_comments
-all_comments f each (x ∷ xs) = comments_join (f x) (flat_map f xs) (each x) (all_comments f each xs)
+all_comments : CommentsJoin → {X : Type 0} (f : X → List ℕ) → ((x : X) → AreComments (f x)) → (xs : List X) → AreComments (flat_map f xs)
+all_comments join f each [] = no_comments
+all_comments join f each (x ∷ xs) = join (f x) (flat_map f xs) (each x) (all_comments join f each xs)
 
 tally_comment : (events : List Event) → AreComments (tally_text events)
 unfolding tally_text
@@ -149,10 +148,10 @@ expansion_comment event =
     (counted to_number (codes " w ") event.w
     (joined (codes " expand ") (decimal event.number) refl (number_runs event.number)) refl) refl) refl) refl)
 
-trace_comments : (events : List Event) → AreComments (trace_text events)
+trace_comments : CommentsJoin → (events : List Event) → AreComments (trace_text events)
 unfolding trace_text
-trace_comments events = all_comments event_lines
-    (λ (event : Event). comments_join (expansion_line event) (flat_map born_line event.born) (expansion_comment event) (all_comments born_line born_comment event.born)) events
+trace_comments join events = all_comments join event_lines
+    (λ (event : Event). join (expansion_line event) (flat_map born_line event.born) (expansion_comment event) (all_comments join born_line born_comment event.born)) events
 
 front_comment : (event : Event) → AreComments (front_line event)
 unfolding front_line
@@ -165,26 +164,26 @@ comments_if : (wanted : Bool) (text : List ℕ) → AreComments text → AreComm
 comments_if true text h = h
 comments_if false text h = no_comments
 
-fronts_after_comments : (earlier events : List Event) → AreComments (fronts_after earlier events)
-fronts_after_comments earlier [] = no_comments
-fronts_after_comments earlier (event ∷ rest) =
-    comments_join (if is_front earlier event.g then front_line event else []) (fronts_after (earlier ++ event ∷ []) rest)
-    (comments_if (is_front earlier event.g) (front_line event) (front_comment event)) (fronts_after_comments (earlier ++ event ∷ []) rest)
+fronts_after_comments : CommentsJoin → (earlier events : List Event) → AreComments (fronts_after earlier events)
+fronts_after_comments join earlier [] = no_comments
+fronts_after_comments join earlier (event ∷ rest) =
+    join (if is_front earlier event.g then front_line event else []) (fronts_after (earlier ++ event ∷ []) rest)
+    (comments_if (is_front earlier event.g) (front_line event) (front_comment event)) (fronts_after_comments join (earlier ++ event ∷ []) rest)
 
-fronts_comments : (events : List Event) → AreComments (fronts_text events)
+fronts_comments : CommentsJoin → (events : List Event) → AreComments (fronts_text events)
 unfolding fronts_text
-fronts_comments events = fronts_after_comments [] events
+fronts_comments join events = fronts_after_comments join [] events
 
-says_comments : (kind : WatchKind) (events : List Event) → AreComments (says kind events)
+says_comments : CommentsJoin → (kind : WatchKind) (events : List Event) → AreComments (says kind events)
 unfolding says
-says_comments Tally events = tally_comment events
-says_comments Trace events = trace_comments events
-says_comments Fronts events = fronts_comments events
-says_comments Silent events = no_comments
+says_comments join Tally events = tally_comment events
+says_comments join Trace events = trace_comments join events
+says_comments join Fronts events = fronts_comments join events
+says_comments join Silent events = no_comments
 
 -- what watchers say are comments
-pub texts_are_comments : (watchers : List (WatchKind × Option ℕ)) (events : List Event) → AreComments (flat_map (λ (text : List ℕ). text) (texts_after watchers events))
-texts_are_comments [] events = no_comments
-texts_are_comments (watcher ∷ watchers) events =
-    comments_join (says watcher.0 (wanted_of watcher.1 events)) (flat_map (λ (text : List ℕ). text) (texts_after watchers events))
-    (says_comments watcher.0 (wanted_of watcher.1 events)) (texts_are_comments watchers events)
+pub texts_are_comments : CommentsJoin → (watchers : List (WatchKind × Option ℕ)) (events : List Event) → AreComments (flat_map (λ (text : List ℕ). text) (texts_after watchers events))
+texts_are_comments join [] events = no_comments
+texts_are_comments join (watcher ∷ watchers) events =
+    join (says watcher.0 (wanted_of watcher.1 events)) (flat_map (λ (text : List ℕ). text) (texts_after watchers events))
+    (says_comments join watcher.0 (wanted_of watcher.1 events)) (texts_are_comments join watchers events)

@@ -24,7 +24,8 @@ use Rattle.wp_app.specs.declared.reply.Status.{Status}
 use Rattle.wp_app.specs.declared.reply.Status.TheVariants as statuses
 use Rattle.wp_app.specs.declared.inputs.Texts.{Texts}
 use Rattle.wp_app.specs.Steps.{Step, missing, ends, goes, reply_of, ◌>>=◌}
-use Rattle.wp_app.specs.Output.{limit_of, answered, within, part_of, items_by, items_step, record_by, domain_in, problem_in, domain_step, problem_step, texts_step, lifted_by, lifted_step, made_step, plan_step, steps_by}
+use Rattle.wp_app.specs.Output.{limit_of, answered, within, part_of, items_by, items_step, record_by, domain_in, problem_in, domain_step, problem_step, lifted_by, lifted_step, plan_step, steps_by}
+use Rattle.wp_app.specs.Table.{made_step, texts_step}
 use Rattle.wp_app.proofs.ChainLemmas.{both, from_problem}
 use Rattle.std.specs.Prelude.{Result, Ok, Err}
 use Rattle.wp_check.specs.declared.step.Step.{Step as PlanStep}

@@ -34,7 +34,8 @@ use Rattle.wp_app.specs.declared.reply.Reply.{Reply}
 use Rattle.wp_app.specs.declared.inputs.Texts.{Texts}
 use Rattle.wp_app.specs.Requests.{Asked, kept_of}
 use Rattle.wp_app.specs.Steps.{Step, goes, reply_of, ◌>>=◌}
-use Rattle.wp_app.specs.Output.{domain_in, domain_step, ending_reply, ending_status, generated_step, grounded_step, items_by, items_step, lifted_by, lifted_step, made_step, named, planned_step, problem_in, problem_step, record_by, run_step, searched_reply, task_by}
+use Rattle.wp_app.specs.Output.{domain_in, domain_step, ending_reply, ending_status, grounded_step, items_by, items_step, lifted_by, lifted_step, named, problem_in, problem_step, record_by, searched_reply, task_by}
+use Rattle.wp_app.specs.Table.{answer_to_gen, answer_to_request, made_step}
 use Rattle.wp_app.specs.Meanings.{IsAnswered}
 use Rattle.wp_app.specs.Generated.{MadeTasksAreNotRefused, is_of_made}
 use Rattle.wp_app.proofs.ChainLemmas.{never_memory}
@@ -79,8 +80,8 @@ searched number size settings watchers step =
     step >>= λ (grounded : Grounded). goes (searched_reply (named number size) settings watchers grounded)
 
 generated_is : (number size : ℕ) (settings : Settings) (watchers : Watching) (are : AreRead domain_text (problem_text number size))
-    → generated_step number size settings watchers ≡ searched number size settings watchers (grounded_step are.lifted)
-unfolding generated_step planned_step
+    → answer_to_gen number size settings watchers ≡ searched number size settings watchers (grounded_step are.lifted)
+unfolding answer_to_gen
 generated_is number size settings watchers are =
     ap (λ (step : Step Texts). step >>= λ (texts : Texts). lifted_step texts.domain texts.problem
     >>= λ (lifted : Lifting). searched number size settings watchers (grounded_step lifted)) (made_goes number size are)
@@ -114,8 +115,8 @@ searched_among number size settings watchers (Some (GoalOutOfReach goal atom)) m
 searched_among number size settings watchers (Some Memory) made known reply e = absurd (known refl)
 
 run_generates : (number size : ℕ) (settings : Settings) (watch : List WatchKind) (plain : Bool) (watchers : Watching) (files : Contents)
-    → run_step (request_with (Gen number size settings watch plain) watchers) files ≡ generated_step number size settings watchers
-unfolding run_step
+    → answer_to_request (request_with (Gen number size settings watch plain) watchers) files ≡ answer_to_gen number size settings watchers
+unfolding answer_to_request
 run_generates number size settings watch plain watchers files = refl
 
 pub made_not_refused : DepotTasksAreRead → MadeTasksAreNotRefused

@@ -1,6 +1,5 @@
 pub mod FetchLemmas
 pub mod PutLemmas
-pub mod TableLemmas
 pub mod ReplyLemmas
 pub mod HeadlineLemmas
 pub mod StepLemmas

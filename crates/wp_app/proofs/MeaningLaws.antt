@@ -39,13 +39,13 @@ use Rattle.wp_app.specs.declared.reply.Status.TheVariants as statuses
 use Rattle.wp_app.specs.declared.inputs.Texts.{Texts}
 use Rattle.wp_app.specs.Requests.{Asked, kept_of}
 use Rattle.wp_app.specs.Steps.{Step, missing, ends, goes, reply_of, ◌>>=◌}
-use Rattle.wp_app.specs.Output.{check_step, ending_reply, ending_status, files_checked_step, files_numbered_step, files_planned_step, generated_step, ground_reply, grounded_step, judged_step, lifted_step, named, numbered_step, part_of, plan_step, planned_step, run_step, searched_reply, task_by, texts_step, verdict_reply, verdict_status, whole}
+use Rattle.wp_app.specs.Output.{ending_reply, ending_status, ground_reply, grounded_step, lifted_step, named, part_of, plan_step, searched_reply, task_by, verdict_reply, verdict_status, whole}
+use Rattle.wp_app.specs.Table.{answer_to_check, answer_to_gen, answer_to_ground, answer_to_plan, answer_to_request, texts_step}
 use Rattle.wp_app.specs.Meanings.{AnswersAreOfTheirCommands, AreLifted, DoneChecksHaveValidPlans, EndingsHaveTheirStatuses, EndsSo, HasInvalidPlan, HasValidPlan, HaveNoPlan, InvalidChecksHaveInvalidPlans, IsAnswered, IsJudged, IsOutOfReach, NoPlanIsTrue, UnreachedGoalsAreAnswered, grounds_task, is_of, is_of_check, is_of_ending, is_of_search, settings_of, texts_of}
 use Rattle.wp_app.proofs.AnswerLaws.{valid_in_task}
 use Rattle.wp_app.proofs.ChainLemmas.{admitted, lifted_finely, never_memory, out_of_reach, task_goes}
 use Rattle.wp_app.proofs.EndLemmas.{AllowsRefusals, EndsIn, goes_past, lifted_ends, made_ends, steps_end, texts_ends}
 use Rattle.wp_app.proofs.ReplyLemmas.{request_with, steps_commanded}
-use Rattle.wp_app.proofs.TableLemmas.{in_two}
 
 abbrev pub Watching : Type 0
 Watching = List (WatchKind × Option ℕ)
@@ -65,8 +65,8 @@ abbrev pub after_texts : Watching → Command → Texts → Step Reply
 after_texts watchers command texts = lifted_step texts.domain texts.problem >>= λ (lifted : Lifting). after_lifting watchers command lifted
 
 pub run_grounding : (command : Command) (watchers : Watching) (files : Contents) → grounds_task command ≡ true
-    → run_step (request_with command watchers) files ≡ (texts_of command files >>= λ (texts : Texts). after_texts watchers command texts)
-unfolding run_step files_numbered_step numbered_step files_planned_step planned_step generated_step
+    → answer_to_request (request_with command watchers) files ≡ (texts_of command files >>= λ (texts : Texts). after_texts watchers command texts)
+unfolding answer_to_request answer_to_ground answer_to_plan answer_to_gen
 run_grounding (Check domain problem plan) watchers files e = cc
 run_grounding (Ground domain problem) watchers files e = refl
 run_grounding (Plan domain problem settings watch plain) watchers files e = refl
@@ -80,15 +80,14 @@ after_steps texts steps = lifted_step texts.domain texts.problem >>= λ (lifted 
 
 -- reading a plan file, and what follows
 pub run_checking : (domain problem plan : List ℕ) (watchers : Watching) (files : Contents)
-    → run_step (request_with (Check domain problem plan) watchers) files
+    → answer_to_request (request_with (Check domain problem plan) watchers) files
     ≡ (texts_step domain problem files >>= λ (texts : Texts). (part_of parts.Plan plan files >>= plan_step) >>= after_steps texts)
-unfolding run_step files_checked_step check_step judged_step
-run_checking domain problem plan watchers files =
-    λ i. texts_step domain problem files >>= λ (texts : Texts). in_two (part_of parts.Plan plan files) plan_step (after_steps texts) i
+unfolding answer_to_request answer_to_check
+run_checking domain problem plan watchers files = refl
 
 -- the answer is the reply of the command's steps
 pub replied : (asked : Asked) (files : Contents) (command : Command) (reply : Reply) → IsAnswered asked files command reply
-    → reply_of (run_step (request_with command (kept_of command asked.watchers)) files) ≡ Some reply
+    → reply_of (answer_to_request (request_with command (kept_of command asked.watchers)) files) ≡ Some reply
 replied asked files command reply is = sym (ap reply_of (steps_commanded asked command files is.named)) ∙ is.answer
 
 pub replied_grounding : (asked : Asked) (files : Contents) (command : Command) (reply : Reply) → IsAnswered asked files command reply

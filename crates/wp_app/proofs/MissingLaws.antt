@@ -34,8 +34,8 @@ use Rattle.wp_app.specs.declared.reply.Status.TheVariants as statuses
 use Rattle.wp_app.specs.declared.inputs.Texts.{Texts}
 use Rattle.wp_app.specs.Requests.{Asked, file_of, kept_of}
 use Rattle.wp_app.specs.Steps.{Step, missing, ends, goes, reply_of, ◌>>=◌}
-use Rattle.wp_app.specs.Output.{answered, domain_in, domain_step, grounded_step, items_by, items_step, lifted_by, lifted_step, limit_of, made_step, part_of, plan_step, problem_in, problem_step, record_by, steps_by, task_by, texts_step, within}
-use Rattle.wp_app.specs.Table.{answer_of, answer_sought}
+use Rattle.wp_app.specs.Output.{answered, domain_in, domain_step, grounded_step, items_by, items_step, lifted_by, lifted_step, limit_of, part_of, plan_step, problem_in, problem_step, record_by, steps_by, task_by, within}
+use Rattle.wp_app.specs.Table.{answer_sought, made_step, texts_step}
 use Rattle.wp_app.specs.Causes.{HasNoFile, IsReadBefore, MissingFilesHaveNoAnswer, reads_files}
 use Rattle.wp_app.specs.Meanings.{texts_of}
 use Rattle.wp_app.proofs.CauseLaws.{Reads, behind, goes_longer, named_reads, reading, reads_check, reads_ground, reads_plan, run_row, same_name}

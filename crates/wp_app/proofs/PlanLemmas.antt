@@ -4,6 +4,8 @@ use Rattle.std.specs.Prelude.{nat_lt, Option, None, Result}
 use Rattle.std.specs.List.{AllByRecursion}
 use Rattle.std.proofs.lemmas.Bool.{and_parts, ltb-true}
 use Rattle.std.proofs.lemmas.List.Elements.{All-from_recursion}
+use Rattle.wp_lift.specs.Problem.{Lifting}
+use Rattle.wp_ground.specs.declared.grounding.Grounded.{Grounded}
 use Rattle.wp_task.specs.declared.acts.Act.{Act}
 use Rattle.wp_task.specs.Task.{PlanningTask, act_at, applies, result_of, leads_to, has_goals}
 use Rattle.wp_plain.specs.declared.settings.Settings.{Settings}
@@ -19,7 +21,8 @@ use Rattle.wp_app.specs.declared.inputs.Texts.{Texts}
 use Rattle.wp_app.specs.declared.reply.Reply.{Reply}
 use Rattle.wp_app.specs.declared.shown.Shown.{Shown}
 use Rattle.wp_app.specs.declared.stop.Stop.{Stop}
-use Rattle.wp_app.specs.Output.{planned_step}
+use Rattle.wp_app.specs.Steps.{Step, goes, ◌>>=◌}
+use Rattle.wp_app.specs.Output.{grounded_step, lifted_step, searched_reply}
 use Rattle.wp_app.specs.Stops.{Meets}
 
 passed : (goals : List ℕ) (tested : Bool) (next : Option (List Bool))
@@ -49,7 +52,13 @@ pub found_below : FoundIsPlan → (task : PlanningTask) (settings : Settings) (e
     → IsPlanBelow (length task.acts) ending.how
 found_below found task settings ending same = how_below found task settings ending.how (ap (λ (end : Ending). end.how) (sym same))
 
+-- what follows the texts of a task that is searched
+abbrev pub after_texts : Shown → Settings → List (WatchKind × Option ℕ) → Texts → Step Reply
+after_texts shown settings watchers texts =
+    lifted_step texts.domain texts.problem >>= λ (lifted : Lifting). grounded_step lifted
+    >>= λ (grounded : Grounded). goes (searched_reply shown settings watchers grounded)
+
 -- what is shown, by an equal value
 pub shows : (shown other : Shown) (settings : Settings) (watchers : List (WatchKind × Option ℕ)) (texts : Texts) (result : Result Reply Stop) → shown ≡ other
-    → Meets {A = Reply} (planned_step shown settings watchers texts) result → Meets {A = Reply} (planned_step other settings watchers texts) result
-shows shown other settings watchers texts result same = subst (λ (one : Shown). Meets {A = Reply} (planned_step one settings watchers texts) result) same
+    → Meets {A = Reply} (after_texts shown settings watchers texts) result → Meets {A = Reply} (after_texts other settings watchers texts) result
+shows shown other settings watchers texts result same = subst (λ (one : Shown). Meets {A = Reply} (after_texts one settings watchers texts) result) same

@@ -23,9 +23,8 @@ use Rattle.wp_watch.specs.Places.{AreAfter, Place}
 use Rattle.wp_app.specs.Requests.{Asked, Request, request_of, request_from, keeps_kind, kept_of, file_of}
 use Rattle.wp_app.specs.Statuses.{is_defined, is_of_files}
 use Rattle.wp_report.specs.Inputs.{read_fault_text, usage_text}
-use Rattle.wp_app.specs.Output.{answered, command_step, request_step, run_step}
-use Rattle.wp_app.specs.Table.{answer_sought}
-use Rattle.wp_app.proofs.TableLemmas.{in_rows}
+use Rattle.wp_app.specs.Output.{answered, request_step}
+use Rattle.wp_app.specs.Table.{answer_sought, answer_to, answer_to_request}
 use Rattle.wp_app.specs.Stops.{Follows, IfUnread}
 use Rattle.wp_app.specs.Headline.{IsReached, IsReply, IsReplyTo, IsUsageOf, ShelfFailed}
 
@@ -33,13 +32,13 @@ use Rattle.wp_app.specs.Headline.{IsReached, IsReply, IsReplyTo, IsUsageOf, Shel
 abbrev begun : Option Request → Step Request
 begun found = elim found [ Some request ↦ goes request | None ↦ answered statuses.Usage usage_text ]
 
-steps_begun : (asked : Asked) (files : Contents) → answer_sought asked files ≡ (begun (request_of asked) >>= λ (request : Request). run_step request files)
-unfolding answer_sought request_step run_step
-steps_begun asked files = λ i. begun (request_of asked) >>= λ (request : Request). in_rows request.watchers request.command files i
+steps_begun : (asked : Asked) (files : Contents) → answer_sought asked files ≡ (begun (request_of asked) >>= λ (request : Request). answer_to_request request files)
+unfolding answer_sought request_step
+steps_begun asked files = refl
 
 -- the steps of what is asked are those of its request
-pub steps_named : (asked : Asked) (request : Request) (files : Contents) → request_of asked ≡ Some request → answer_sought asked files ≡ run_step request files
-steps_named asked request files e = steps_begun asked files ∙ ap (λ (found : Option Request). begun found >>= λ (one : Request). run_step one files) e
+pub steps_named : (asked : Asked) (request : Request) (files : Contents) → request_of asked ≡ Some request → answer_sought asked files ≡ answer_to_request request files
+steps_named asked request files e = steps_begun asked files ∙ ap (λ (found : Option Request). begun found >>= λ (one : Request). answer_to_request one files) e
 
 -- a command with watchers
 abbrev pub request_with : Command → List (WatchKind × Option ℕ) → Request
@@ -49,11 +48,11 @@ request_with command watchers = record { command = command; watchers = watchers 
 abbrev pub request_for : Asked → Command → Request
 request_for asked command = record { command = command; watchers = kept_of command asked.watchers }
 
-pub steps_commanded : (asked : Asked) (command : Command) (files : Contents) → command_of asked.words ≡ Some command → answer_sought asked files ≡ run_step (request_for asked command) files
+pub steps_commanded : (asked : Asked) (command : Command) (files : Contents) → command_of asked.words ≡ Some command → answer_sought asked files ≡ answer_to_request (request_for asked command) files
 steps_commanded asked command files e = steps_named asked (request_for asked command) files (ap (request_from asked.watchers) e)
 
 pub steps_unnamed : (asked : Asked) (files : Contents) → command_of asked.words ≡ None → answer_sought asked files ≡ answered statuses.Usage usage_text
-steps_unnamed asked files e = steps_begun asked files ∙ ap (λ (found : Option Command). begun (request_from asked.watchers found) >>= λ (one : Request). run_step one files) e
+steps_unnamed asked files e = steps_begun asked files ∙ ap (λ (found : Option Command). begun (request_from asked.watchers found) >>= λ (one : Request). answer_to_request one files) e
 
 of_files_defined : (status : Status) → IsTrue (is_of_files status) → is_defined status ≡ true
 of_files_defined statuses.Done h = refl
@@ -75,23 +74,23 @@ of_files_other status h e = let no : false ≡ true = subst (λ (s : Status). is
 
 -- a reply that the steps of the request give
 pub replied : (request : Request) (contents : Option Contents) (before now : ℕ) (reply : Reply) → IsTrue (is_of_files reply.status)
-    → ((files : Contents) → contents ≡ Some files → reply_of (run_step request files) ≡ Some reply) → IsReplyTo request contents before now reply
+    → ((files : Contents) → contents ≡ Some files → reply_of (answer_to_request request files) ≡ Some reply) → IsReplyTo request contents before now reply
 replied request contents before now reply h gives = (
   of_files_other reply.status h,
   λ asked named. inl (of_files_defined reply.status h, λ files told. ap reply_of (steps_named asked request files named) ∙ gives files told),
 )
 
 pub replied_value : (request : Request) (contents : Option Contents) (before now : ℕ) (reply : Reply) → IsTrue (is_of_files reply.status)
-    → Follows {A = Reply} contents (run_step request) before now (Ok reply) → IsReplyTo request contents before now reply
+    → Follows {A = Reply} contents (answer_to_request request) before now (Ok reply) → IsReplyTo request contents before now reply
 replied_value request contents before now reply h follows = replied request contents before now reply h (λ files told. ap reply_of (follows.gives files told))
 
 pub replied_end : (request : Request) (contents : Option Contents) (before now : ℕ) (reply : Reply) (stop : Stop) → stop ≡ Ends reply
-    → Follows {A = Reply} contents (run_step request) before now (Err stop) → IsReplyTo request contents before now reply
+    → Follows {A = Reply} contents (answer_to_request request) before now (Err stop) → IsReplyTo request contents before now reply
 replied_end request contents before now reply stop same follows =
-    let ended : Follows {A = Reply} contents (run_step request) before now (Err (Ends reply)) = subst (λ (s : Stop). Follows {A = Reply} contents (run_step request) before now (Err s)) same follows in
+    let ended : Follows {A = Reply} contents (answer_to_request request) before now (Err (Ends reply)) = subst (λ (s : Stop). Follows {A = Reply} contents (answer_to_request request) before now (Err s)) same follows in
     replied request contents before now reply ended.defined (λ files told. ap reply_of (ended.gives files told))
 
-failed : (asked : Asked) (request : Request) (contents : Option Contents) (before now : ℕ) → request_of asked ≡ Some request → Rose before now ⊎ ((files : Contents) × (contents ≡ Some files) × (run_step request files ≡ missing)) → ShelfFailed asked contents before now
+failed : (asked : Asked) (request : Request) (contents : Option Contents) (before now : ℕ) → request_of asked ≡ Some request → Rose before now ⊎ ((files : Contents) × (contents ≡ Some files) × (answer_to_request request files ≡ missing)) → ShelfFailed asked contents before now
 failed asked request contents before now named (inl rose) = inl rose
 failed asked request contents before now named (inr at) = inr (at.0, at.1, ap reply_of (steps_named asked request at.0 named ∙ at.2))
 
@@ -113,9 +112,9 @@ unread_line text = record { text = text; status = statuses.ReadFault }
 
 -- a run that stops at a file that it did not get replies with the line of that file
 pub replied_unread : (request : Request) (contents : Option Contents) (before now : ℕ) (part : Part) (text : List ℕ) (stop : Stop) → stop ≡ ReadFault part → text ≡ read_fault_text part
-    → Follows {A = Reply} contents (run_step request) before now (Err stop) → IfUnread {A = Reply} (Err stop) (IsReached contents request.command) → IsReplyTo request contents before now (unread_line text)
+    → Follows {A = Reply} contents (answer_to_request request) before now (Err stop) → IfUnread {A = Reply} (Err stop) (IsReached contents request.command) → IsReplyTo request contents before now (unread_line text)
 replied_unread request contents before now part text stop same is follows reached =
-    let missed : Follows {A = Reply} contents (run_step request) before now (Err (ReadFault part)) = subst (λ (s : Stop). Follows {A = Reply} contents (run_step request) before now (Err s)) same follows in
+    let missed : Follows {A = Reply} contents (answer_to_request request) before now (Err (ReadFault part)) = subst (λ (s : Stop). Follows {A = Reply} contents (answer_to_request request) before now (Err s)) same follows in
     let came : IsReached contents request.command part = subst (λ (s : Stop). IfUnread {A = Reply} (Err s) (IsReached contents request.command)) same reached in (
       (λ e. cc),
       λ asked named. inr (
@@ -143,11 +142,11 @@ command_exact asked request contents before now reply named is =
 
 -- the steps of a command are those of its request
 pub follows_request : {contents : Option Contents} {before now : ℕ} {result : Result Reply Stop} (list : List (WatchKind × Option ℕ)) (command other : Command) → command ≡ other
-    → Follows {A = Reply} contents (command_step list other) before now result
-    → Follows {A = Reply} contents (run_step (request_with command list)) before now result
-unfolding run_step
+    → Follows {A = Reply} contents (answer_to list other) before now result
+    → Follows {A = Reply} contents (answer_to_request (request_with command list)) before now result
+unfolding answer_to_request
 follows_request {contents = contents} {before = before} {now = now} {result = result} list command other same follows =
-    subst (λ (one : Command). Follows {A = Reply} contents (command_step list one) before now result) (sym same) follows
+    subst (λ (one : Command). Follows {A = Reply} contents (answer_to list one) before now result) (sym same) follows
 
 -- ---- watchers
 filter-made : {X Y : Type 0} (f : X → Y) (t : Y → Bool) (xs : List X) → map f (filter (λ x. t (f x)) xs) ≡ filter t (map f xs)

@@ -24,9 +24,10 @@ use Rattle.wp_watch.specs.declared.watch.WatchKind.{WatchKind}
 use Rattle.wp_words.specs.declared.commands.Command.TheVariants.{Plan}
 use Rattle.wp_app.specs.Requests.{Asked, kept_of}
 use Rattle.wp_app.specs.Steps.{Step, ends, goes, reply_of, ◌>>=◌}
-use Rattle.wp_app.specs.Output.{texts_step, lifted_step, task_by, grounded_step, files_planned_step, planned_step, run_step, searched_reply, whole, ending_reply, ending_status}
-use Rattle.wp_app.specs.Table.{answer_of}
+use Rattle.wp_app.specs.Output.{lifted_step, task_by, grounded_step, searched_reply, whole, ending_reply, ending_status}
+use Rattle.wp_app.specs.Table.{answer_of, answer_to_plan, answer_to_request, texts_step}
 use Rattle.wp_app.specs.Laws.{IsLifted, IsSearched, IsPlanned, IsReadAs, HasNoPlan, FoundPlansAreReadBack, GoalsOutOfReachHaveNoPlan, EmptiedSearchesHaveNoPlan, DoneAnswersAreValidPlans, AnswersOfNoPlanAreTrue}
+use Rattle.wp_app.proofs.PlanLemmas.{after_texts}
 use Rattle.wp_app.proofs.ReplyLemmas.{steps_commanded}
 use Rattle.wp_app.proofs.EndLemmas.{AllowsRefusals, EndsIn, goes_past, lifted_ends, texts_ends}
 
@@ -49,12 +50,12 @@ record Answers (asked : Asked) (files : Contents) (settings : Settings) (reply :
 
 answers : (asked : Asked) (files : Contents) (settings : Settings) (reply : Reply) (status : Status) → AllowsRefusals (Otherwise status)
     → IsPlanned asked files settings reply → reply.status ≡ status → Answers asked files settings reply
-unfolding run_step files_planned_step planned_step
+unfolding answer_to_request answer_to_plan
 answers asked files settings reply status later is same =
     let command = Plan is.domain is.problem settings is.watch is.plain in
     let watchers = kept_of command asked.watchers in
     let run = sym (ap reply_of (steps_commanded asked command files is.command)) ∙ is.answer in
-    let first = after status (texts_step is.domain is.problem files) (planned_step whole settings watchers) reply (texts_ends (Otherwise status) later is.domain is.problem files) run same in
+    let first = after status (texts_step is.domain is.problem files) (after_texts whole settings watchers) reply (texts_ends (Otherwise status) later is.domain is.problem files) run same in
     let second =
     after status (lifted_step first.0.domain first.0.problem)
     (λ (lifted : Lifting). grounded_step lifted >>= λ (grounded : Grounded). goes (searched_reply whole settings watchers grounded)) reply

@@ -1,25 +1,36 @@
--- The usage is told exactly where the words have no command, and `--plain` plays no part in an answer.
+-- The usage is told exactly where the words have no command, and `--plain`, `--workers` and `--ahead` play no part in an answer.
 use Rattle.std.proofs.Common.{◌≡◌, ℕ, Bool, true, false, List, refl, sym, ap, ◌∙◌, subst}
 use Rattle.std.specs.Prelude.{Option, None, Some}
 use Rattle.wp_edge.specs.Fetch.{Contents}
+use Rattle.wp_lift.specs.Problem.{Lifting}
+use Rattle.wp_ground.specs.declared.grounding.Grounded.{Grounded}
+use Rattle.wp_plain.specs.declared.ending.How.{How}
 use Rattle.wp_plain.specs.declared.settings.Search.{Search}
 use Rattle.wp_plain.specs.declared.settings.Search.TheVariants.{KBfws, F5}
+use Rattle.wp_plain.specs.declared.settings.Settings.{Settings}
+use Rattle.wp_plain.specs.Pairs.{all_tuples}
+use Rattle.wp_plain.specs.Run.{Moment, WorkersPlayNoPart, ending_from}
 use Rattle.wp_watch.specs.declared.watch.WatchKind.{WatchKind}
+use Rattle.wp_watch.specs.Places.{texts_after}
 use Rattle.wp_words.specs.declared.commands.Command.{Command}
 use Rattle.wp_words.specs.declared.commands.Command.TheVariants.{Check, Gen, Ground, Plan}
 use Rattle.wp_words.specs.Words.{command_of}
+use Rattle.wp_report.specs.Endings.{ending_text}
 use Rattle.wp_report.specs.Inputs.{usage_text}
+use Rattle.wp_app.specs.declared.inputs.Texts.{Texts}
 use Rattle.wp_app.specs.declared.reply.Reply.{Reply}
 use Rattle.wp_app.specs.declared.reply.Status.{Status}
 use Rattle.wp_app.specs.declared.reply.Status.TheVariants as statuses
+use Rattle.wp_app.specs.declared.shown.Shown.{Shown}
 use Rattle.wp_app.specs.Requests.{Asked, kept_of}
-use Rattle.wp_app.specs.Steps.{Step, reply_of}
-use Rattle.wp_app.specs.Output.{run_step}
-use Rattle.wp_app.specs.Table.{answer_of, answer_sought}
-use Rattle.wp_app.specs.Causes.{PlainPlaysNoPart, UsageIsOfNoCommand, with_plain}
+use Rattle.wp_app.specs.Steps.{Step, goes, reply_of, ◌>>=◌}
+use Rattle.wp_app.specs.Output.{ending_reply, grounded_step, lifted_step, named, searched_reply, whole, with_texts}
+use Rattle.wp_app.specs.Table.{answer_of, answer_sought, answer_to_gen, answer_to_plan, answer_to_request, made_step, texts_step}
+use Rattle.wp_app.specs.Causes.{PlainPlaysNoPart, UsageIsOfNoCommand, WorkersChangeNoAnswer, with_plain, with_workers}
 use Rattle.wp_app.specs.Meanings.{IsAnswered, is_of, is_of_search}
 use Rattle.wp_app.proofs.CauseLaws.{stopped}
 use Rattle.wp_app.proofs.MeaningLaws.{of_their_commands}
+use Rattle.wp_app.proofs.PlanLemmas.{after_texts}
 use Rattle.wp_app.proofs.ReplyLemmas.{request_with, steps_commanded, steps_unnamed}
 
 -- ---- the usage
@@ -54,9 +65,9 @@ usage asked files reply answer = (
 
 -- ---- `--plain`
 run_plain : (command : Command) (scans : Bool) (watchers : List (WatchKind × Option ℕ)) (files : Contents)
-    → run_step (request_with (with_plain scans command) (kept_of (with_plain scans command) watchers)) files
-    ≡ run_step (request_with command (kept_of command watchers)) files
-unfolding run_step
+    → answer_to_request (request_with (with_plain scans command) (kept_of (with_plain scans command) watchers)) files
+    ≡ answer_to_request (request_with command (kept_of command watchers)) files
+unfolding answer_to_request
 run_plain (Check domain problem plan) scans watchers files = refl
 run_plain (Ground domain problem) scans watchers files = refl
 run_plain (Plan domain problem settings watch plain) scans watchers files = refl
@@ -66,5 +77,46 @@ pub no_part : PlainPlaysNoPart
 no_part asked other files command scans named also same =
     ap reply_of
     (steps_commanded other (with_plain scans command) files also ∙ run_plain command scans other.watchers files
-    ∙ ap (λ (watchers : List (WatchKind × Option ℕ)). run_step (request_with command (kept_of command watchers)) files) same
+    ∙ ap (λ (watchers : List (WatchKind × Option ℕ)). answer_to_request (request_with command (kept_of command watchers)) files) same
+    ∙ sym (steps_commanded asked command files named))
+
+-- ---- `--workers` and `--ahead`
+abbrev Watching : Type 0
+Watching = List (WatchKind × Option ℕ)
+
+abbrev crewed : ℕ → ℕ → Settings → Settings
+crewed workers ahead settings = record settings { workers = workers; ahead = ahead }
+
+searched_alike : WorkersPlayNoPart → (shown : Shown) (settings : Settings) (workers ahead : ℕ) (watchers : Watching) (grounded : Grounded)
+    → searched_reply shown (crewed workers ahead settings) watchers grounded ≡ searched_reply shown settings watchers grounded
+unfolding searched_reply ending_reply ending_text
+searched_alike alike shown settings workers ahead watchers grounded =
+    ap (λ (end : How × Moment). with_texts (ending_reply shown settings grounded (ending_from end)) (texts_after watchers end.1.events))
+    (alike grounded.task settings (all_tuples grounded.task settings) workers ahead)
+
+texts_alike : WorkersPlayNoPart → (shown : Shown) (settings : Settings) (workers ahead : ℕ) (watchers : Watching) (texts : Texts)
+    → after_texts shown (crewed workers ahead settings) watchers texts ≡ after_texts shown settings watchers texts
+texts_alike alike shown settings workers ahead watchers texts =
+    λ j. lifted_step texts.domain texts.problem >>= λ (lifted : Lifting). grounded_step lifted
+    >>= λ (grounded : Grounded). goes (searched_alike alike shown settings workers ahead watchers grounded j)
+
+run_workers : WorkersPlayNoPart → (command : Command) (workers ahead : ℕ) (watchers : Watching) (files : Contents)
+    → answer_to_request (request_with (with_workers workers ahead command) (kept_of (with_workers workers ahead command) watchers)) files
+    ≡ answer_to_request (request_with command (kept_of command watchers)) files
+unfolding answer_to_request answer_to_plan answer_to_gen
+run_workers alike (Check domain problem plan) workers ahead watchers files = refl
+run_workers alike (Ground domain problem) workers ahead watchers files = refl
+run_workers alike (Plan domain problem settings watch plain) workers ahead watchers files =
+    let kept = kept_of (Plan domain problem settings watch plain) watchers in
+    λ j. texts_step domain problem files >>= λ (texts : Texts). texts_alike alike whole settings workers ahead kept texts j
+run_workers alike (Gen number size settings watch plain) workers ahead watchers files =
+    let kept = kept_of (Gen number size settings watch plain) watchers in
+    λ j. made_step number size >>= λ (texts : Texts). texts_alike alike (named number size) settings workers ahead kept texts j
+
+pub any_workers : WorkersPlayNoPart → WorkersChangeNoAnswer
+any_workers alike asked other files command workers ahead named also same =
+    ap reply_of
+    (steps_commanded other (with_workers workers ahead command) files also
+    ∙ run_workers alike command workers ahead other.watchers files
+    ∙ ap (λ (watchers : Watching). answer_to_request (request_with command (kept_of command watchers)) files) same
     ∙ sym (steps_commanded asked command files named))

@@ -26,8 +26,8 @@ use Rattle.wp_words.specs.declared.commands.Command.TheVariants.{Check, Gen, Gro
 use Rattle.wp_words.specs.Words.{command_of}
 use Rattle.wp_app.specs.Requests.{Asked, file_of}
 use Rattle.wp_app.specs.Steps.{goes, ◌>>=◌}
-use Rattle.wp_app.specs.Output.{domain_step, limit_of, part_of, plan_step}
-use Rattle.wp_app.specs.Table.{answer_of}
+use Rattle.wp_app.specs.Output.{domain_step, limit_of, part_of}
+use Rattle.wp_app.specs.Table.{answer_of, steps_in}
 use Rattle.wp_app.specs.Meanings.{AreLifted, IsAnswered, grounds_task, texts_of}
 
 -- the usage is told exactly where the words have no command
@@ -48,6 +48,22 @@ abbrev pub PlainPlaysNoPart : Type 0
 PlainPlaysNoPart =
     (asked other : Asked) (files : Contents) (command : Command) (scans : Bool) → command_of asked.words ≡ Some command
     → command_of other.words ≡ Some (with_plain scans command) → other.watchers ≡ asked.watchers
+    → answer_of other files ≡ answer_of asked files
+
+-- the same command, with other numbers of workers and of nodes whose children are evaluated ahead
+abbrev pub with_workers : ℕ → ℕ → Command → Command
+with_workers workers ahead (Check domain problem plan) = Check domain problem plan
+with_workers workers ahead (Ground domain problem) = Ground domain problem
+with_workers workers ahead (Plan domain problem settings watch plain) =
+    Plan domain problem (record settings { workers = workers; ahead = ahead }) watch plain
+with_workers workers ahead (Gen number size settings watch plain) =
+    Gen number size (record settings { workers = workers; ahead = ahead }) watch plain
+
+-- `--workers` and `--ahead` play no part in an answer
+abbrev pub WorkersChangeNoAnswer : Type 0
+WorkersChangeNoAnswer =
+    (asked other : Asked) (files : Contents) (command : Command) (workers ahead : ℕ) → command_of asked.words ≡ Some command
+    → command_of other.words ≡ Some (with_workers workers ahead command) → other.watchers ≡ asked.watchers
     → answer_of other files ≡ answer_of asked files
 
 -- the command reads its texts from files; those of `gen` are made
@@ -100,7 +116,7 @@ pub record HasNoFile (files : Contents) (command : Command) : Type 0 where
 pub record HasFaultyNames (files : Contents) (command : Command) : Type 0 where
   pub texts : Texts
   pub read : texts_of command files ≡ goes texts
-  pub plan : (name : List ℕ) → file_of command parts.Plan ≡ Some name → (steps : List PlanStep) × ((part_of parts.Plan name files >>= plan_step) ≡ goes steps)
+  pub plan : (name : List ℕ) → file_of command parts.Plan ≡ Some name → (steps : List PlanStep) × (steps_in name files ≡ goes steps)
   pub fault : (lifting_of texts.domain texts.problem).faults ≢ []
 
 -- a task of what the files mean has too many actions or too many atoms

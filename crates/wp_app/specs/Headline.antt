@@ -16,8 +16,8 @@ use Rattle.wp_words.specs.Words.{command_of}
 use Rattle.wp_app.specs.Requests.{Asked, Request, request_of, file_of}
 use Rattle.wp_app.specs.Steps.{goes, ◌>>=◌}
 use Rattle.wp_report.specs.Inputs.{read_fault_text}
-use Rattle.wp_app.specs.Output.{part_of, domain_step, texts_step}
-use Rattle.wp_app.specs.Table.{answer_of}
+use Rattle.wp_app.specs.Output.{part_of, domain_step}
+use Rattle.wp_app.specs.Table.{answer_of, texts_step}
 use Rattle.wp_app.specs.Puts.{IsCut}
 use Rattle.wp_app.specs.Statuses.{is_defined}
 

@@ -28,8 +28,8 @@ use Rattle.wp_words.specs.declared.commands.Command.TheVariants.{Plan}
 use Rattle.wp_words.specs.Words.{command_of}
 use Rattle.wp_app.specs.Steps.{goes}
 use Rattle.wp_app.specs.Requests.{Asked}
-use Rattle.wp_app.specs.Output.{texts_step, lifted_step, grounded_step}
-use Rattle.wp_app.specs.Table.{answer_of}
+use Rattle.wp_app.specs.Output.{lifted_step, grounded_step}
+use Rattle.wp_app.specs.Table.{answer_of, texts_step}
 
 -- the words are those of `plan` with these settings, and its files are lifted without a fault
 pub record IsLifted (asked : Asked) (files : Contents) (settings : Settings) (lifted : Lifting) : Type 0 where

@@ -2,7 +2,6 @@
 use Rattle.std.specs.Prelude.{◌≡◌, ◌≢◌, ◌↔◌, ◌⊎◌, ℕ, Bool, true, false, Option, None, Some, List}
 use Rattle.std.specs.List.{AllZip}
 use Rattle.wp_edge.specs.Fetch.{Contents}
-use Rattle.wp_syntax.specs.declared.error.Part.TheVariants as parts
 use Rattle.wp_lift.specs.Problem.{Lifting, Instance}
 use Rattle.wp_lift.specs.Worlds.{is_valid}
 use Rattle.wp_check.specs.declared.step.Step.{Step as PlanStep}
@@ -26,9 +25,9 @@ use Rattle.wp_words.specs.declared.commands.Command.{Command}
 use Rattle.wp_words.specs.declared.commands.Command.TheVariants.{Check, Gen, Ground, Plan}
 use Rattle.wp_words.specs.Words.{command_of}
 use Rattle.wp_app.specs.Requests.{Asked}
-use Rattle.wp_app.specs.Steps.{Step, goes, ◌>>=◌}
-use Rattle.wp_app.specs.Output.{ending_status, grounded_step, lifted_step, made_step, part_of, plan_step, texts_step}
-use Rattle.wp_app.specs.Table.{answer_of}
+use Rattle.wp_app.specs.Steps.{Step, goes}
+use Rattle.wp_app.specs.Output.{ending_status, grounded_step, lifted_step}
+use Rattle.wp_app.specs.Table.{answer_of, made_step, steps_in, texts_step}
 
 -- the words are those of the command, and this is their answer
 pub record IsAnswered (asked : Asked) (files : Contents) (command : Command) (reply : Reply) : Type 0 where
@@ -92,7 +91,7 @@ pub record AreLifted (files : Contents) (command : Command) (lifted : Lifting) :
 -- the domain and the problem are lifted, and the plan file is read as these steps
 pub record IsJudged (files : Contents) (domain problem plan : List ℕ) (lifted : Lifting) (steps : List PlanStep) : Type 0 where
   pub lifts : AreLifted files (Check domain problem plan) lifted
-  pub steps_read : (part_of parts.Plan plan files >>= plan_step) ≡ goes steps
+  pub steps_read : steps_in plan files ≡ goes steps
 
 -- and the steps name the instances of a valid plan
 pub record HasValidPlan (files : Contents) (domain problem plan : List ℕ) : Type 0 where

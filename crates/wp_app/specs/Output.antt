@@ -1,5 +1,5 @@
--- The steps in which an answer is sought: what each of them goes on with, and the answer where it does not; and below, the steps in a row
--- as the code takes them. Which answer each command has stands in Table.
+-- The steps in which an answer is sought: what each of them goes on with, and the answer where it does not. Which steps each command has,
+-- and in which order, stands in Table.
 use Rattle.std.specs.Prelude.{ℕ, nat_lt, true, false, Option, None, Some, Result, Ok, Err, List, [], ◌∷◌, ◌++◌, length}
 use Rattle.std.specs.List.{flat_map}
 use Rattle.std.specs.FinMap.{get}
@@ -33,9 +33,6 @@ use Rattle.wp_ground.specs.Refusals.{grounded_of, refusal_of}
 use Rattle.wp_app.specs.declared.reply.Reply.{Reply}
 use Rattle.wp_app.specs.declared.reply.Status.{Status}
 use Rattle.wp_app.specs.declared.reply.Status.TheVariants as statuses
-use Rattle.wp_app.specs.declared.inputs.Texts.{Texts}
-use Rattle.wp_words.specs.declared.commands.Command.{Command}
-use Rattle.wp_words.specs.declared.commands.Command.TheVariants.{Check, Gen, Ground, Plan}
 use Rattle.wp_app.specs.Requests.{Asked, Request, request_of}
 use Rattle.wp_app.specs.Steps.{Step, missing, ends, goes, ◌>>=◌}
 use Rattle.wp_plain.specs.declared.settings.Search.{Search}
@@ -53,7 +50,6 @@ use Rattle.wp_report.specs.Refusals.{lex_text, pddl_text, plan_error_text}
 use Rattle.wp_report.specs.Verdicts.{verdict_text}
 use Rattle.wp_report.specs.Tasks.{ground_text, ground_error_text}
 use Rattle.wp_report.specs.Endings.{ending_text}
-use Rattle.wp_gen.specs.Depot.{domain_text, problem_text}
 use Rattle.wp_app.specs.declared.shown.Shown.{Shown}
 
 -- the most bytes that the file of a part may have
@@ -136,26 +132,6 @@ unfoldable pub verdict_reply : Lifting → List PlanStep → Reply
 verdict_reply lifted steps =
     let verdict = verdict_of lifted steps in record { text = verdict_text lifted steps verdict; status = verdict_status verdict }
 
--- a domain and a problem, each read before the next file is fetched
-unfoldable pub texts_step : List ℕ → List ℕ → Contents → Step Texts
-texts_step domain problem files = do
-  domain_text ← part_of parts.Domain domain files
-  domain_record ← domain_step domain_text
-  problem_text ← part_of parts.Problem problem files
-  problem_record ← problem_step problem_text
-  goes (record { domain = domain_record; problem = problem_record })
-
-unfoldable pub judged_step : Texts → List PlanStep → Step Reply
-judged_step texts steps = do
-  lifted ← lifted_step texts.domain texts.problem
-  goes (verdict_reply lifted steps)
-
-unfoldable pub check_step : Texts → List ℕ → Contents → Step Reply
-check_step texts plan files = do
-  plan_text ← part_of parts.Plan plan files
-  steps ← plan_step plan_text
-  judged_step texts steps
-
 abbrev pub ground_error_status : GroundError → Status
 ground_error_status grounds.TooManyActs = statuses.Limit
 ground_error_status grounds.TooManyAtoms = statuses.Limit
@@ -202,52 +178,3 @@ unfoldable pub searched_reply : Shown → Settings → List (WatchKind × Option
 searched_reply shown settings watchers grounded =
     with_texts (ending_reply shown settings grounded (ending_of grounded.task settings (all_tuples grounded.task settings)))
     (texts_after watchers (run grounded.task settings (all_tuples grounded.task settings)).1.events)
-
-unfoldable pub planned_step : Shown → Settings → List (WatchKind × Option ℕ) → Texts → Step Reply
-planned_step shown settings watchers texts = do
-  lifted ← lifted_step texts.domain texts.problem
-  grounded ← grounded_step lifted
-  goes (searched_reply shown settings watchers grounded)
-
-unfoldable pub numbered_step : Texts → Step Reply
-numbered_step texts = do
-  lifted ← lifted_step texts.domain texts.problem
-  grounded ← grounded_step lifted
-  goes (ground_reply grounded)
-
--- ---- by command, from the names of its files
-unfoldable pub files_checked_step : List ℕ → List ℕ → List ℕ → Contents → Step Reply
-files_checked_step domain problem plan files = do
-  texts ← texts_step domain problem files
-  check_step texts plan files
-
-unfoldable pub files_numbered_step : List ℕ → List ℕ → Contents → Step Reply
-files_numbered_step domain problem files = do
-  texts ← texts_step domain problem files
-  numbered_step texts
-
-unfoldable pub files_planned_step : List ℕ → List ℕ → Settings → List (WatchKind × Option ℕ) → Contents → Step Reply
-files_planned_step domain problem settings watchers files = do
-  texts ← texts_step domain problem files
-  planned_step whole settings watchers texts
-
--- the domain and the problem that are made of a number and a size, read as those of files
-unfoldable pub made_step : ℕ → ℕ → Step Texts
-made_step number size = do
-  domain_record ← domain_step domain_text
-  problem_record ← problem_step (problem_text number size)
-  goes (record { domain = domain_record; problem = problem_record })
-
-unfoldable pub generated_step : ℕ → ℕ → Settings → List (WatchKind × Option ℕ) → Step Reply
-generated_step number size settings watchers = do
-  texts ← made_step number size
-  planned_step (named number size) settings watchers texts
-
-abbrev pub command_step : List (WatchKind × Option ℕ) → Command → Contents → Step Reply
-command_step watchers (Check domain problem plan) files = files_checked_step domain problem plan files
-command_step watchers (Ground domain problem) files = files_numbered_step domain problem files
-command_step watchers (Plan domain problem settings watch plain) files = files_planned_step domain problem settings watchers files
-command_step watchers (Gen number size settings watch plain) files = generated_step number size settings watchers
-
-unfoldable pub run_step : Request → Contents → Step Reply
-run_step request files = command_step request.watchers request.command files

@@ -6,7 +6,7 @@ ghost use Rattle.wp_plain.specs.Ranges.{AreInRange};
 ghost use Rattle.wp_watch.specs.declared.watch.WatchKind.{WatchKind};
 ghost use Rattle.wp_watch.specs.Places.{AreAfter, AreUntold};
 ghost use Rattle.wp_words.specs.Names.{IsSize};
-ghost use Rattle.wp_app.specs.Output.{generated_step, made_step};
+ghost use Rattle.wp_app.specs.Table.{answer_to_gen, made_step};
 ghost use Rattle.wp_app.specs.Statuses.{is_of_files};
 ghost use Rattle.wp_app.specs.Stops.{Meets};
 
@@ -25,7 +25,7 @@ use wp_report::gen_text;
 use wp_watch::Watchers;
 
 /// How the search of the task of a number and a size ends, behind the line that names them.
-#[tactic(auto, unfolding(crate::specs::Output::generated_step))]
+#[tactic(auto, unfolding(crate::specs::Table::answer_to_gen))]
 pub fn generated<R: Threads + Sync, G: Gate>(
     rt: &R,
     alloc: Global,
@@ -41,7 +41,7 @@ pub fn generated<R: Threads + Sync, G: Gate>(
     requires untold { AreUntold (places_in kind until told watchers) }
     ensures meets { (list : List (WatchKind × Option ℕ))
         → AreAfter list [] (places_in kind until told watchers) →
-        Meets (generated_step number size settings.now list) result }
+        Meets (answer_to_gen number size settings.now list) result }
     ensures defined { IfOk result (λ reply. IsTrue (is_of_files reply.status)) }
 {
     let texts = made_texts(alloc, number, size)?;
@@ -53,7 +53,7 @@ pub fn generated<R: Threads + Sync, G: Gate>(
 }
 
 /// The domain and the problem of a number and a size.
-#[tactic(auto, unfolding(crate::specs::Output::made_step))]
+#[tactic(auto, unfolding(crate::specs::Table::made_step))]
 fn made_texts(alloc: Global, number: u64, size: u32) -> Result<Texts, Stop>
     requires { IsSize size }
     ensures { Meets (made_step number size) result }

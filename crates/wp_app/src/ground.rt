@@ -2,9 +2,11 @@
 
 ghost use Rattle.std.specs.Prelude.{◌≡◌, ◌≢◌, ◌≤◌, IfOk, IsTrue, IsUtf8};
 ghost use Rattle.wp_app.specs.Headline.{IsReached};
-ghost use Rattle.wp_app.specs.Output.{ground_error_status, ground_reply, grounded_step, numbered_step, files_numbered_step};
+ghost use Rattle.wp_app.specs.Output.{ground_error_status, ground_reply, grounded_step, lifted_step};
 ghost use Rattle.wp_app.specs.Statuses.{is_of_files};
+ghost use Rattle.wp_app.specs.Steps.{goes, ◌>>=◌ as ◌and_then◌};
 ghost use Rattle.wp_app.specs.Stops.{Follows, IfUnread, Meets};
+ghost use Rattle.wp_app.specs.Table.{answer_to_ground};
 ghost use Rattle.wp_words.specs.declared.commands.Command.TheVariants.{Ground};
 ghost use Rattle.wp_report.specs.Tasks.{IsNamed};
 
@@ -19,7 +21,7 @@ use wp_lift::Lifted;
 use wp_report::{ground_error_text, ground_text};
 
 /// The task of a domain and a problem, of the files of these names.
-#[tactic(auto, unfolding(crate::specs::Output::files_numbered_step))]
+#[tactic(auto, unfolding(crate::specs::Table::answer_to_ground))]
 pub fn ground_files<S: Shelf>(
     alloc: Global,
     shelf: &mut S,
@@ -28,7 +30,7 @@ pub fn ground_files<S: Shelf>(
 ) -> Result<Reply, Stop>
     requires domain { IsUtf8 domain.now }
     requires problem { IsUtf8 problem.now }
-    ensures follows { Follows (S.contents shelf.old) (files_numbered_step domain.now problem.now)
+    ensures follows { Follows (S.contents shelf.old) (answer_to_ground domain.now problem.now)
         (S.faults shelf.old) (S.faults shelf.new) result }
     ensures defined { IfOk result (λ reply. IsTrue (is_of_files reply.status)) }
     ensures unread { IfUnread result
@@ -41,9 +43,9 @@ pub fn ground_files<S: Shelf>(
 }
 
 /// The answer to a domain and a problem that have no fault of their own.
-#[tactic(auto, unfolding(crate::specs::Output::numbered_step))]
 fn numbered(alloc: Global, texts: &Texts) -> Result<Reply, Stop>
-    ensures meets { Meets (numbered_step texts.now) result }
+    ensures meets { Meets (lifted_step texts.now.domain texts.now.problem
+        and_then λ lifted. grounded_step lifted and_then λ grounded. goes (ground_reply grounded)) result }
     ensures defined { IfOk result (λ reply. IsTrue (is_of_files reply.status)) }
 {
     let lifted = lifted_of(alloc, texts)?;

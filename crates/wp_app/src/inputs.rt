@@ -2,8 +2,8 @@
 
 ghost use Rattle.std.specs.Prelude.{◌≡◌, ◌≤◌, IsUtf8};
 ghost use Rattle.wp_app.specs.Headline.{IsInputReached};
-ghost use Rattle.wp_app.specs.Output.{texts_step};
 ghost use Rattle.wp_app.specs.Stops.{Follows, IfUnread};
+ghost use Rattle.wp_app.specs.Table.{texts_step};
 
 use crate::fetch::read_part;
 use crate::readers::{domain_of, problem_of};
@@ -20,7 +20,7 @@ pub struct Texts {
 }
 
 /// The domain and the problem of these names. The domain is read before the problem is fetched.
-#[tactic(auto, unfolding(crate::specs::Output::texts_step))]
+#[tactic(auto, unfolding(crate::specs::Table::texts_step))]
 pub fn read_texts<S: Shelf>(
     alloc: Global,
     shelf: &mut S,

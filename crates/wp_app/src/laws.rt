@@ -2,7 +2,7 @@
 
 ghost use Rattle.wp_app.specs.Laws.{AnswersOfNoPlanAreTrue, DoneAnswersAreValidPlans, EmptiedSearchesHaveNoPlan, FoundPlansAreReadBack, GoalsOutOfReachHaveNoPlan, LargeBudgetsAreNotSpent, LargeLimitsAreNotReached, SearchesAreBounded};
 
-use wp_check::plans_of_texts_are_read_back;
+use wp_check::{comments_join, plans_of_texts_are_read_back};
 use wp_ground::{plans_are_valid, unreached_goals_have_no_plan, valid_plans_are_numbered};
 use wp_lift::liftings_are_formed;
 use wp_plain::{emptied_has_no_plan, endings_answer, found_is_plan};
@@ -16,6 +16,7 @@ pub fn found_plans_are_read_back()
     liftings_are_formed();
     plans_are_valid();
     plans_of_texts_are_read_back();
+    comments_join();
 }
 
 /// Where the answer is that a goal is out of reach, no plan is valid.

@@ -33,6 +33,7 @@ pub use meanings::{
     answers_are_of_their_commands, checks_are_true, endings_have_their_statuses,
     missing_files_have_no_answer, no_plan_is_true, plain_plays_no_part, refusals_have_their_causes,
     tasks_are_grounded, unreached_goals_are_answered, usage_is_of_no_command,
+    workers_change_no_answer,
 };
 pub use reply::{Reply, Status};
 pub use run::run_words;

@@ -1,12 +1,12 @@
 //! Laws of the answers of all commands: what each status means, in the words of the definitions.
 
-ghost use Rattle.wp_app.specs.Causes.{LimitsHaveTheirCauses, MissingFilesHaveNoAnswer, PlainPlaysNoPart, RefusalsHaveTheirCauses, TasksAreGrounded, UsageIsOfNoCommand};
+ghost use Rattle.wp_app.specs.Causes.{LimitsHaveTheirCauses, MissingFilesHaveNoAnswer, PlainPlaysNoPart, RefusalsHaveTheirCauses, TasksAreGrounded, UsageIsOfNoCommand, WorkersChangeNoAnswer};
 ghost use Rattle.wp_app.specs.Meanings.{AnswersAreOfTheirCommands, DoneChecksHaveValidPlans, EndingsHaveTheirStatuses, InvalidChecksHaveInvalidPlans, NoPlanIsTrue, UnreachedGoalsAreAnswered};
 
 use wp_check::valid_steps_name_valid_plans;
 use wp_ground::{plans_are_valid, unreached_goals_have_no_plan, valid_plans_are_numbered};
 use wp_lift::liftings_are_formed;
-use wp_plain::emptied_has_no_plan;
+use wp_plain::{emptied_has_no_plan, workers_play_no_part};
 
 /// Which statuses each command can answer.
 pub fn answers_are_of_their_commands()
@@ -54,6 +54,13 @@ pub fn usage_is_of_no_command()
 pub fn plain_plays_no_part()
     ensures { PlainPlaysNoPart }
 {}
+
+/// Words whose commands differ in `--workers` and `--ahead` alone have one answer.
+pub fn workers_change_no_answer()
+    ensures { WorkersChangeNoAnswer }
+{
+    workers_play_no_part();
+}
 
 /// `ground` prints a task exactly where its files are read and lifted and no cause is against the task.
 pub fn tasks_are_grounded()

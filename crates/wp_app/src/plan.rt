@@ -8,9 +8,11 @@ ghost use Rattle.wp_watch.specs.declared.watch.WatchKind.{WatchKind};
 ghost use Rattle.wp_watch.specs.Places.{AreAfter, AreUntold};
 ghost use Rattle.wp_plain.specs.Places.{places_in};
 ghost use Rattle.wp_app.specs.Headline.{IsInputReached};
-ghost use Rattle.wp_app.specs.Output.{ending_reply, ending_status, files_planned_step, planned_step, searched_reply, whole, with_texts};
+ghost use Rattle.wp_app.specs.Output.{ending_reply, ending_status, grounded_step, lifted_step, searched_reply, whole, with_texts};
 ghost use Rattle.wp_app.specs.Statuses.{is_of_files};
+ghost use Rattle.wp_app.specs.Steps.{goes, ◌>>=◌ as ◌and_then◌};
 ghost use Rattle.wp_app.specs.Stops.{Follows, IfUnread, Meets};
+ghost use Rattle.wp_app.specs.Table.{answer_to_plan};
 ghost use Rattle.wp_report.specs.Endings.{IsPlanBelow};
 ghost use Rattle.wp_report.specs.Tasks.{IsNamed};
 
@@ -31,7 +33,7 @@ use wp_task::Task;
 use wp_watch::{Watchers, places_follow};
 
 /// How the search of the task of a domain and a problem ends, of the files of these names.
-#[tactic(auto, unfolding(crate::specs::Output::files_planned_step))]
+#[tactic(auto, unfolding(crate::specs::Table::answer_to_plan))]
 pub fn plan_files<R: Threads + Sync, S: Shelf, G: Gate>(
     rt: &R,
     alloc: Global,
@@ -49,7 +51,7 @@ pub fn plan_files<R: Threads + Sync, S: Shelf, G: Gate>(
     requires untold { AreUntold (places_in kind until told watchers) }
     ensures follows { (list : List (WatchKind × Option ℕ))
         → AreAfter list [] (places_in kind until told watchers) →
-        Follows (S.contents shelf.old) (files_planned_step domain.now problem.now settings.now list)
+        Follows (S.contents shelf.old) (answer_to_plan domain.now problem.now settings.now list)
         (S.faults shelf.old) (S.faults shelf.new) result }
     ensures defined { IfOk result (λ reply. IsTrue (is_of_files reply.status)) }
     ensures unread { IfUnread result (IsInputReached (S.contents shelf.old) domain.now) }
@@ -72,7 +74,6 @@ fn whole(alloc: Global) -> Shown
 }
 
 /// The answer to a domain and a problem that have no fault of their own.
-#[tactic(auto, unfolding(crate::specs::Output::planned_step))]
 pub fn planned<R: Threads + Sync, G: Gate>(
     rt: &R,
     alloc: Global,
@@ -87,7 +88,8 @@ pub fn planned<R: Threads + Sync, G: Gate>(
     requires untold { AreUntold (places_in kind until told watchers) }
     ensures meets { (list : List (WatchKind × Option ℕ))
         → AreAfter list [] (places_in kind until told watchers) →
-        Meets (planned_step shown settings.now list texts.now) result }
+        Meets (lifted_step texts.now.domain texts.now.problem and_then λ lifted. grounded_step lifted
+        and_then λ grounded. goes (searched_reply shown settings.now list grounded)) result }
     ensures defined { IfOk result (λ reply. IsTrue (is_of_files reply.status)) }
 {
     let lifted = lifted_of(alloc, texts)?;

@@ -1,8 +1,9 @@
 //! The readers of the texts as steps of a run: a fault of a text is an answer.
 
 ghost use Rattle.std.specs.Prelude.{◌≡◌, IfOk, IsTrue};
-ghost use Rattle.wp_app.specs.Output.{domain_in, domain_step, items_step, judged_step, lifted_step, plan_step, problem_in, problem_step, refused, verdict_reply, verdict_status};
+ghost use Rattle.wp_app.specs.Output.{domain_in, domain_step, items_step, lifted_step, plan_step, problem_in, problem_step, refused, verdict_reply, verdict_status};
 ghost use Rattle.wp_app.specs.Statuses.{is_of_files};
+ghost use Rattle.wp_app.specs.Steps.{goes, ◌>>=◌ as ◌and_then◌};
 ghost use Rattle.wp_app.specs.Stops.{Meets};
 ghost use Rattle.wp_check.specs.PlanFile.{AreShort};
 
@@ -90,10 +91,10 @@ fn refuse<T>(line: Text) -> Result<T, Stop>
 }
 
 /// The answer to a plan whose texts have no fault of their own.
-#[tactic(auto, unfolding(crate::specs::Output::judged_step))]
 pub fn judge(alloc: Global, texts: &Texts, steps: &Steps) -> Result<Reply, Stop>
     requires { AreShort steps.now }
-    ensures meets { Meets (judged_step texts.now steps.now) result }
+    ensures meets { Meets (lifted_step texts.now.domain texts.now.problem
+        and_then λ lifted. goes (verdict_reply lifted steps.now)) result }
     ensures defined { IfOk result (λ reply. IsTrue (is_of_files reply.status)) }
 {
     let lifted = lifted_of(alloc, texts)?;

@@ -2,7 +2,6 @@
 
 ghost use Rattle.std.specs.Prelude.{◌≡◌, ◌≤◌, ◌∷◌, ◌++◌, ℕ, [], List, Option, IfOk, OnOk, None, All, filter, map, string_bytes, IsTrue, if◌then◌else◌};
 ghost use Rattle.wp_app.specs.Headline.{Headline, outside_of, Answered, ReadFaulted, WriteFaulted, IsReply, IsReplyTo, IsReached, IsUsageOf, IsUsageOrFault};
-ghost use Rattle.wp_app.specs.Output.{run_step};
 ghost use Rattle.wp_watch.specs.declared.watch.WatchKind.{WatchKind};
 ghost use Rattle.wp_watch.specs.Places.{AreAfter, AreUntold};
 ghost use Rattle.wp_plain.specs.Places.{places_in};
@@ -11,6 +10,7 @@ ghost use Rattle.wp_words.specs.Words.{command_of};
 ghost use Rattle.wp_app.specs.Requests.{asked_by, keeps_kind};
 ghost use Rattle.wp_app.specs.Statuses.{is_defined, is_of_files};
 ghost use Rattle.wp_app.specs.Stops.{Follows, IfUnread};
+ghost use Rattle.wp_app.specs.Table.{answer_to_request};
 
 use crate::check::check;
 use crate::generate::generated;
@@ -177,7 +177,7 @@ fn command_reply<R: Threads + Sync, S: Shelf, G: Gate>(
 }
 
 /// The answer to a command.
-#[tactic(auto, unfolding(crate::specs::Output::run_step))]
+#[tactic(auto, unfolding(crate::specs::Table::answer_to_request))]
 fn run_command<R: Threads + Sync, S: Shelf, G: Gate>(
     rt: &R,
     alloc: Global,
@@ -191,7 +191,7 @@ fn run_command<R: Threads + Sync, S: Shelf, G: Gate>(
     requires untold { AreUntold (places_in kind until told watchers) }
     ensures follows { (list : List (WatchKind × Option ℕ))
         → AreAfter list [] (places_in kind until told watchers) → Follows (S.contents shelf.old)
-        (run_step (record { command = command.now; watchers = list }))
+        (answer_to_request (record { command = command.now; watchers = list }))
         (S.faults shelf.old) (S.faults shelf.new) result }
     ensures defined { IfOk result (λ reply. IsTrue (is_of_files reply.status)) }
     ensures unread { IfUnread result (IsReached (S.contents shelf.old) command.now) }

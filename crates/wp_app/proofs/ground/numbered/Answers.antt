@@ -1,11 +1,9 @@
 use Rattle.std.proofs.lemmas.Result.{err_from_is_err_and}
-use Rattle.wp_app.specs.Output.{numbered_step}
 use Rattle.wp_app.proofs.ReadLemmas.{meets_memory}
 use Rattle.wp_app.proofs.StepLemmas.{meets_next, meets_stop}
 use Rattle.wp_app.proofs.ground.numbered.Goals as goal
 
 pub returns-in_err-grounded-clause-meets : goal.returns-in_err-grounded-clause-meets
-unfolding numbered_step
 returns-in_err-grounded-clause-meets c =
     let p = err_from_is_err_and c.from_residual-in_err-grounded.result c.from_residual-in_err-grounded.ensures.1 in
     rw (p.1, p.2) (meets_next _ c.in_ok-lifted.ensures (meets_stop _ c.in_err-grounded.ensures.meets))

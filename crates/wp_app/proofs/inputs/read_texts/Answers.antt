@@ -1,5 +1,5 @@
 use Rattle.std.proofs.lemmas.Result.{err_from_is_err_and}
-use Rattle.wp_app.specs.Output.{texts_step}
+use Rattle.wp_app.specs.Table.{texts_step}
 use Rattle.wp_app.proofs.StepLemmas.{stops, goes_on, goes_on_unread}
 use Rattle.wp_app.proofs.inputs.read_texts.Goals as goal
 
