@@ -1,9 +1,9 @@
 //! The children of a root, as jobs make and share them.
 
-use crate::tasks::chain;
 use std::alloc::{AllocError, Global};
 use std::test::Fail;
 use wp_count::{Brood, brood_of, root_of};
+use wp_fixtures::chain;
 use wp_succ::Plain;
 use wp_task::Task;
 

@@ -8,15 +8,7 @@
 #[cfg(test)]
 mod counters;
 #[cfg(test)]
-mod pairs;
-#[cfg(test)]
-mod plans;
-#[cfg(test)]
 mod queue;
-#[cfg(test)]
-mod searches;
-#[cfg(test)]
-mod shuttle;
 #[cfg(test)]
 mod states;
 #[cfg(test)]

@@ -1,9 +1,9 @@
 //! States of each size, and the actions that apply in a state.
 ghost use Rattle.std.specs.Prelude.{◌≡◌, length};
 
-use crate::tasks::{Row, acts_of, state_of, task_of, trap};
 use std::alloc::{AllocError, Global};
 use std::test::Fail;
+use wp_fixtures::{Row, acts_of, state_of, task_of, trap};
 use wp_succ::{Plain, Successors, Tree};
 use wp_task::{Atoms, State, Task};
 

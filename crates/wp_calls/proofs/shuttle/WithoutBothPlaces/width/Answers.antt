@@ -1,5 +1,0 @@
-use Rattle.wp_calls.proofs.ShuttleLemmas.{without_both-apart}
-use Rattle.wp_calls.proofs.shuttle.WithoutBothPlaces.width.Goals as goal
-
-pub returns-clause-apart : goal.returns-clause-apart
-returns-clause-apart c = without_both-apart

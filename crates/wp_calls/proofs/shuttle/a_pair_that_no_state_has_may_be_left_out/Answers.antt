@@ -1,9 +1,0 @@
-use Rattle.std.proofs.Common.{refl}
-use Rattle.wp_calls.proofs.ShuttleLemmas.{without_both-counts}
-use Rattle.wp_calls.proofs.shuttle.a_pair_that_no_state_has_may_be_left_out.Goals as goal
-
-pub search_the_shuttle-requires-clause-counted : goal.search_the_shuttle-requires-clause-counted
-search_the_shuttle-requires-clause-counted c κs bounds state reachable two p q less here there = refl
-
-pub search_the_shuttle-requires-2-clause-counted : goal.search_the_shuttle-requires-2-clause-counted
-search_the_shuttle-requires-2-clause-counted c κs bounds = without_both-counts

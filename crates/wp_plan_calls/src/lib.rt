@@ -1,0 +1,13 @@
+//! The calls on plans, on pairs that can be true together and on certificates of no plan, from outside their crates. A crate of tests.
+//!
+//! A body that always answers want of memory is refused here where no command calls it, and by the stored runs of the program
+//! where one does. What a call answers is proved of its definition, whose worked rows are computed in the definition's crate;
+//! the answers here are stated by hand, never taken from the program.
+#![tactic(auto)]
+
+#[cfg(test)]
+mod certificates;
+#[cfg(test)]
+mod pairs;
+#[cfg(test)]
+mod plans;

@@ -1,0 +1,11 @@
+//! Searches from outside their crate: over tables of the caller, and over an index that leaves out a pair. A crate of tests.
+//!
+//! A body that always answers want of memory is refused here where no command calls it, and by the stored runs of the program
+//! where one does. What a call answers is proved of its definition, whose worked rows are computed in the definition's crate;
+//! the answers here are stated by hand, never taken from the program.
+#![tactic(auto)]
+
+#[cfg(test)]
+mod searches;
+#[cfg(test)]
+mod shuttle;
