@@ -91,6 +91,9 @@ problems_are_limited bytes long = one_too_long parts.Problem 16777216 bytes refl
 plans_are_limited : (bytes : List ℕ) → length bytes ≡ 16777217 → within parts.Plan (Some bytes) ≡ too_long parts.Plan 16777216
 plans_are_limited bytes long = one_too_long parts.Plan 16777216 bytes refl (ap (nat_lt 16777216) long)
 
+certificates_are_limited : (bytes : List ℕ) → length bytes ≡ 268435457 → within parts.Certificate (Some bytes) ≡ too_long parts.Certificate 268435456
+certificates_are_limited bytes long = one_too_long parts.Certificate 268435456 bytes refl (ap (nat_lt 268435456) long)
+
 -- and one as long as its limit goes on
 domains_may_be_long : (bytes : List ℕ) → length bytes ≡ 4194304 → within parts.Domain (Some bytes) ≡ goes bytes
 domains_may_be_long bytes long =

@@ -3,3 +3,4 @@ mod SearchRows
 mod NumberedRows
 mod AnswerRows
 mod FileRows
+mod CertificateRows

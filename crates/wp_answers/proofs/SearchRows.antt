@@ -32,7 +32,7 @@ abbrev reply_in : Row → Reply
 reply_in row = row.2
 
 abbrev reply_to : Row → Reply
-reply_to row = searched_reply whole row.1 [] (chain row.0)
+reply_to row = searched_reply (whole false) row.1 [] (chain row.0)
 
 abbrev asking : Search → ℕ → ℕ → Settings
 asking search budget words =

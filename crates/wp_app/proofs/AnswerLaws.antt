@@ -1,9 +1,9 @@
 -- The laws of the answers to `plan`, from those of the readers, of the task and of the search.
 use Rattle.std.proofs.Common.{◌≡◌, ℕ, ◌+◌, ◌*◌, ◌<◌, ◌≤◌, Bool, true, false, List, [], ◌∷◌, ◌++◌, length, map, Some, refl, sym, ap, ◌∙◌, subst, ◌⊎◌, inl, inr, ⊎_elim, append_assoc}
-use Rattle.std.specs.Prelude.{Option}
+use Rattle.std.specs.Prelude.{◌&&◌, Option, if◌then◌else◌}
 use Rattle.std.specs.List.{AllByRecursion, flat_map, list_all}
 use Rattle.std.proofs.lemmas.Bool.{cases_Bool, both_ways, ltb-false}
-use Rattle.std.proofs.lemmas.List.{length-map, get_or-map}
+use Rattle.std.proofs.lemmas.List.{append-nil, length-map, get_or-map}
 use Rattle.std.proofs.lemmas.List.Elements.{recursion_from_All}
 use Rattle.wp_edge.specs.Fetch.{Contents}
 use Rattle.wp_lift.specs.Problem.{Lifting, Instance}
@@ -40,7 +40,7 @@ use Rattle.wp_watch.specs.Places.{texts_after}
 use Rattle.wp_words.specs.declared.commands.Command.TheVariants.{Plan}
 use Rattle.wp_app.specs.Requests.{Asked, Request, kept_of}
 use Rattle.wp_app.specs.Steps.{Step, goes, reply_of, ◌>>=◌}
-use Rattle.wp_app.specs.Output.{lifted_step, grounded_step, searched_reply, whole, with_texts, ending_reply, ending_status}
+use Rattle.wp_app.specs.Output.{certified, closed_text, is_no_plan, lifted_step, grounded_step, searched_reply, whole, with_texts, ending_reply, ending_status}
 use Rattle.wp_app.specs.Table.{answer_of, answer_to_plan, answer_to_request, texts_step}
 use Rattle.wp_app.specs.Laws.{IsLifted, IsSearched, FoundPlansAreReadBack, GoalsOutOfReachHaveNoPlan, EmptiedSearchesHaveNoPlan, SearchesAreBounded, LargeBudgetsAreNotSpent, LargeLimitsAreNotReached}
 use Rattle.wp_app.proofs.PlanLemmas.{after_texts}
@@ -49,52 +49,54 @@ use Rattle.wp_app.proofs.ChainLemmas.{texts_read, lifted_finely, task_goes, admi
 use Rattle.wp_app.proofs.CommentLemmas.{found_is_comment, texts_are_comments}
 
 -- ---- the reply
-planned : (settings : Settings) (watchers : List (WatchKind × Option ℕ)) (texts : Texts) (lifted : Lifting) (grounded : Grounded) → lifted_step texts.domain texts.problem ≡ goes lifted
-    → grounded_step lifted ≡ goes grounded → after_texts whole settings watchers texts ≡ goes (searched_reply whole settings watchers grounded)
-planned settings watchers texts lifted grounded lifts grounds =
-    ap (λ (step : Step Lifting). step >>= λ (one : Lifting). grounded_step one >>= λ (task : Grounded). goes (searched_reply whole settings watchers task)) lifts
-    ∙ ap (λ (step : Step Grounded). step >>= λ (task : Grounded). goes (searched_reply whole settings watchers task)) grounds
+planned : (closed : Bool) (settings : Settings) (watchers : List (WatchKind × Option ℕ)) (texts : Texts) (lifted : Lifting) (grounded : Grounded) → lifted_step texts.domain texts.problem ≡ goes lifted
+    → grounded_step lifted ≡ goes grounded → after_texts (whole closed) settings watchers texts ≡ goes (searched_reply (whole closed) settings watchers grounded)
+planned closed settings watchers texts lifted grounded lifts grounds =
+    ap (λ (step : Step Lifting). step >>= λ (one : Lifting). grounded_step one >>= λ (task : Grounded). goes (searched_reply (whole closed) settings watchers task)) lifts
+    ∙ ap (λ (step : Step Grounded). step >>= λ (task : Grounded). goes (searched_reply (whole closed) settings watchers task)) grounds
 
-run_plan : (domain problem : List ℕ) (settings : Settings) (watch : List WatchKind) (plain : Bool) (watchers : List (WatchKind × Option ℕ)) (files : Contents) (texts : Texts)
+run_plan : (domain problem : List ℕ) (settings : Settings) (watch : List WatchKind) (plain closed : Bool) (watchers : List (WatchKind × Option ℕ)) (files : Contents) (texts : Texts)
     → texts_step domain problem files ≡ goes texts
-    → answer_to_request (let request : Request = record { command = Plan domain problem settings watch plain; watchers = watchers } in request) files ≡ after_texts whole settings watchers texts
+    → answer_to_request (let request : Request = record { command = Plan domain problem settings watch plain closed; watchers = watchers } in request) files ≡ after_texts (whole closed) settings watchers texts
 unfolding answer_to_request answer_to_plan
-run_plan domain problem settings watch plain watchers files texts read = ap (λ (step : Step Texts). step >>= λ (one : Texts). after_texts whole settings watchers one) read
+run_plan domain problem settings watch plain closed watchers files texts read = ap (λ (step : Step Texts). step >>= λ (one : Texts). after_texts (whole closed) settings watchers one) read
 
 -- what the watchers say of the search of a task
-abbrev said : Settings → List (WatchKind × Option ℕ) → Grounded → List (List ℕ)
+abbrev pub said : Settings → List (WatchKind × Option ℕ) → Grounded → List (List ℕ)
 said settings watchers grounded = texts_after watchers (run grounded.task settings (all_tuples grounded.task settings)).1.events
 
-searched : (settings : Settings) (watchers : List (WatchKind × Option ℕ)) (grounded : Grounded) (ending : Ending) → ending_of grounded.task settings (all_tuples grounded.task settings) ≡ ending
-    → searched_reply whole settings watchers grounded ≡ with_texts (ending_reply whole settings grounded ending) (said settings watchers grounded)
+searched : (closed : Bool) (settings : Settings) (watchers : List (WatchKind × Option ℕ)) (grounded : Grounded) (ending : Ending) → ending_of grounded.task settings (all_tuples grounded.task settings) ≡ ending
+    → searched_reply (whole closed) settings watchers grounded ≡ certified closed (closed_text grounded.task ending.counts.kept) (with_texts (ending_reply (whole closed) settings grounded ending) (said settings watchers grounded))
 unfolding searched_reply
-searched settings watchers grounded ending ends = ap (λ (one : Ending). with_texts (ending_reply whole settings grounded one) (said settings watchers grounded)) ends
+searched closed settings watchers grounded ending ends =
+    ap (λ (one : Ending). certified closed (closed_text grounded.task one.counts.kept) (with_texts (ending_reply (whole closed) settings grounded one) (said settings watchers grounded))) ends
 
 -- the watchers that are kept for the search
-abbrev watchers_of : (asked : Asked) (files : Contents) (settings : Settings) (lifted : Lifting) → IsLifted asked files settings lifted → List (WatchKind × Option ℕ)
-watchers_of asked files settings lifted of = kept_of (Plan of.domain of.problem settings of.watch of.plain) asked.watchers
+abbrev pub watchers_of : (asked : Asked) (files : Contents) (settings : Settings) (lifted : Lifting) → IsLifted asked files settings lifted → List (WatchKind × Option ℕ)
+watchers_of asked files settings lifted of = kept_of (Plan of.domain of.problem settings of.watch of.plain of.closed) asked.watchers
 
 -- the answer of a search that ended so
-abbrev answer_with : (asked : Asked) (files : Contents) (settings : Settings) (lifted : Lifting) (ending : Ending) → IsSearched asked files settings lifted ending → Reply
+abbrev pub answer_with : (asked : Asked) (files : Contents) (settings : Settings) (lifted : Lifting) (ending : Ending) → IsSearched asked files settings lifted ending → Reply
 answer_with asked files settings lifted ending is =
-    with_texts (ending_reply whole settings is.grounded ending) (said settings (watchers_of asked files settings lifted is.lifts) is.grounded)
+    certified is.lifts.closed (closed_text is.grounded.task ending.counts.kept)
+    (with_texts (ending_reply (whole is.lifts.closed) settings is.grounded ending) (said settings (watchers_of asked files settings lifted is.lifts) is.grounded))
 
-answered : (asked : Asked) (files : Contents) (settings : Settings) (lifted : Lifting) (ending : Ending)
+pub answered : (asked : Asked) (files : Contents) (settings : Settings) (lifted : Lifting) (ending : Ending)
     (is : IsSearched asked files settings lifted ending) → answer_of asked files ≡ Some (answer_with asked files settings lifted ending is)
 answered asked files settings lifted ending is =
     let of = is.lifts in
     let watchers = watchers_of asked files settings lifted of in
     ap reply_of
-    (steps_commanded asked (Plan of.domain of.problem settings of.watch of.plain) files of.command
-    ∙ run_plan of.domain of.problem settings of.watch of.plain watchers files of.texts of.read
-    ∙ planned settings watchers of.texts lifted is.grounded of.lifts is.grounds
-    ∙ ap (λ (reply : Reply). goes reply) (searched settings watchers is.grounded ending is.ends))
+    (steps_commanded asked (Plan of.domain of.problem settings of.watch of.plain of.closed) files of.command
+    ∙ run_plan of.domain of.problem settings of.watch of.plain of.closed watchers files of.texts of.read
+    ∙ planned of.closed settings watchers of.texts lifted is.grounded of.lifts is.grounds
+    ∙ ap (λ (reply : Reply). goes reply) (searched of.closed settings watchers is.grounded ending is.ends))
 
 -- the status of an ending
-status_by : (settings : Settings) (grounded : Grounded) (ending : Ending) (how : How) → ending.how ≡ how
-    → (ending_reply whole settings grounded ending).status ≡ ending_status settings.search how
+pub status_by : (closed : Bool) (settings : Settings) (grounded : Grounded) (ending : Ending) (how : How) → ending.how ≡ how
+    → (ending_reply (whole closed) settings grounded ending).status ≡ ending_status settings.search how
 unfolding ending_reply
-status_by settings grounded ending how is = ap (ending_status settings.search) is
+status_by closed settings grounded ending how is = ap (ending_status settings.search) is
 
 -- ---- the text
 name_is : (lifted : Lifting) (a : ℕ) → a < length (task_of lifted).acts
@@ -110,17 +112,24 @@ plan_is : (lifted : Lifting) (plan : List ℕ) → AllByRecursion (λ (a : ℕ).
 plan_is lifted [] all = refl
 plan_is lifted (a ∷ plan) (here, later) = λ j. line (name_is lifted a here j) ++ plan_is lifted plan later j
 
-found_reply : (settings : Settings) (lifted : Lifting) (grounded : Grounded) (ending : Ending) (plan : List ℕ) → ending.how ≡ Found plan
+found_reply : (closed : Bool) (settings : Settings) (lifted : Lifting) (grounded : Grounded) (ending : Ending) (plan : List ℕ) → ending.how ≡ Found plan
     → grounded_of lifted ≡ grounded → AllByRecursion (λ (a : ℕ). a < length (task_of lifted).acts) plan
-    → (ending_reply whole settings grounded ending).text
+    → (ending_reply (whole closed) settings grounded ending).text
     ≡ steps_text (naming_steps lifted (map (instance_at lifted) plan)) ++ found_text (length plan) ending.counts
 unfolding ending_reply ending_text ending_line
-found_reply settings lifted grounded ending plan found same all =
+found_reply closed settings lifted grounded ending plan found same all =
     let tuples = tuple_count settings.width grounded.task.atoms in
     let last = found_text (length plan) ending.counts in
     ap (λ (how : How). found_steps grounded.act_names how ++ ending_line settings.search tuples how ending.counts) found
     ∙ ap (λ (one : Grounded). plan_text one.act_names plan ++ last) (sym same)
     ∙ ap (λ (text : List ℕ). text ++ last) (plan_is lifted plan all)
+
+-- behind a plan there is no certificate
+uncertified : (closed : Bool) (settings : Settings) (grounded : Grounded) (ending : Ending) (plan lines : List ℕ) → ending.how ≡ Found plan
+    → (if is_no_plan (ending_reply (whole closed) settings grounded ending).status && closed then lines else []) ≡ []
+unfolding ending_reply
+uncertified closed settings grounded ending plan lines found =
+    ap (λ (how : How). if is_no_plan (ending_status settings.search how) && closed then lines else []) found
 
 -- ---- the laws
 is_formed : LiftingsAreFormed → (asked : Asked) (files : Contents) (settings : Settings) (lifted : Lifting) → IsLifted asked files settings lifted
@@ -150,14 +159,18 @@ found_read_back found_is_plan are_formed plans_are_valid read_back join asked fi
     read_back texts.domain_text texts.problem_text of.texts.domain of.texts.problem lifted (map (instance_at lifted) plan) comments
     texts.is_domain texts.is_problem (lifted_finely of.texts.domain of.texts.problem lifted of.lifts) valid.1
     are_comments in
+    let answer = with_texts (ending_reply (whole of.closed) settings is.grounded ending) says in
+    let lines = closed_text is.grounded.task ending.counts.kept in
     let text =
-    ap (λ (front : List ℕ). front ++ more)
-    (found_reply settings lifted is.grounded ending plan found task.1
+    ap (λ (behind : List ℕ). answer.text ++ behind) (uncertified of.closed settings is.grounded ending plan lines found)
+    ∙ append-nil answer.text
+    ∙ ap (λ (front : List ℕ). front ++ more)
+    (found_reply of.closed settings lifted is.grounded ending plan found task.1
     (recursion_from_All (λ (a : ℕ). a < length (task_of lifted).acts) plan valid.0))
     ∙ append_assoc (steps_text (naming_steps lifted (map (instance_at lifted) plan))) line_of more in (
       answer_with asked files settings lifted ending is,
       answered asked files settings lifted ending is,
-      status_by settings is.grounded ending (Found plan) found,
+      status_by is.lifts.closed settings is.grounded ending (Found plan) found,
       record { comments = comments; commented = are_comments; shown = text; read = ap plan_of text ∙ back.read; valid = back.valid },
     )
 
@@ -188,11 +201,11 @@ emptied_no_plan emptied are_formed plans_are_valid numbered asked files settings
     (cases_Bool (is_valid lifted plan))
 
 -- the search that ended so is that of the problem's task, which is within the limits
-record IsOfTask (settings : Settings) (lifted : Lifting) (ending : Ending) : Type 0 where
-  fits : IsTask (task_of lifted)
-  ends : ending_of (task_of lifted) settings (all_tuples (task_of lifted) settings) ≡ ending
+pub record IsOfTask (settings : Settings) (lifted : Lifting) (ending : Ending) : Type 0 where
+  pub fits : IsTask (task_of lifted)
+  pub ends : ending_of (task_of lifted) settings (all_tuples (task_of lifted) settings) ≡ ending
 
-of_task : (asked : Asked) (files : Contents) (settings : Settings) (lifted : Lifting) (ending : Ending)
+pub of_task : (asked : Asked) (files : Contents) (settings : Settings) (lifted : Lifting) (ending : Ending)
     → IsSearched asked files settings lifted ending → IsOfTask settings lifted ending
 of_task asked files settings lifted ending is =
     let task = task_goes lifted is.grounded is.grounds in
@@ -228,7 +241,7 @@ not_spent answer asked files settings lifted ending is search large =
     (λ (spent : ending.how ≡ Budget). (answer (task_of lifted) settings of.fits).unspent search above (ap (λ (end : Ending). end.how) of.ends ∙ spent)) in (
       answer_with asked files settings lifted ending is,
       answered asked files settings lifted ending is,
-      λ e. goes_on (spent_ending settings.search ending.how (sym (status_by settings is.grounded ending ending.how refl) ∙ e)),
+      λ e. goes_on (spent_ending settings.search ending.how (sym (status_by is.lifts.closed settings is.grounded ending ending.how refl) ∙ e)),
     )
 
 pub not_reached : EndingsOfAllAnswer → LargeLimitsAreNotReached
@@ -240,8 +253,8 @@ not_reached answer asked files settings lifted ending states is search all few l
     let status : (reply.status ≡ statuses.Done) ⊎ (reply.status ≡ statuses.NoPlan) =
     ⊎_elim
     (λ (found : (plan : List ℕ) × ((ending_of task settings (all_tuples task settings)).how ≡ Found plan)).
-    inl (status_by settings is.grounded ending (Found found.0) (sym how ∙ found.1)))
+    inl (status_by is.lifts.closed settings is.grounded ending (Found found.0) (sym how ∙ found.1)))
     (λ (emptied : (ending_of task settings (all_tuples task settings)).how ≡ Emptied).
-    inr (status_by settings is.grounded ending Emptied (sym how ∙ emptied) ∙ ap (λ (one : Search). ending_status one Emptied) search))
+    inr (status_by is.lifts.closed settings is.grounded ending Emptied (sym how ∙ emptied) ∙ ap (λ (one : Search). ending_status one Emptied) search))
     ((answer task settings of.fits).decided states search all few large) in
     (reply, answered asked files settings lifted ending is, status)

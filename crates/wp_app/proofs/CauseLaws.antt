@@ -22,6 +22,12 @@ use Rattle.wp_lift.specs.Lifting.{lifting_of}
 use Rattle.wp_check.specs.declared.step.Step.{Step as PlanStep}
 use Rattle.wp_check.specs.declared.step.PlanError.{PlanError}
 use Rattle.wp_check.specs.PlanFile.{plan_of}
+use Rattle.wp_cert.specs.declared.answer.Audit.{Audit as Audited}
+use Rattle.wp_cert.specs.declared.answer.Audit.TheVariants.{Yes, Foreign, NoStart, Goal, Open}
+use Rattle.wp_cert.specs.declared.errors.CertError.TheVariants as certs
+use Rattle.wp_cert.specs.Audits.{audit_of}
+use Rattle.wp_cert.specs.Format.{cert_of}
+use Rattle.wp_cert.specs.Texts.{cert_error_text}
 use Rattle.wp_app.specs.declared.reply.Reply.{Reply}
 use Rattle.wp_app.specs.declared.reply.Status.{Status}
 use Rattle.wp_app.specs.declared.reply.Status.TheVariants as statuses
@@ -32,7 +38,7 @@ use Rattle.wp_report.specs.Inputs.{too_long_text}
 use Rattle.wp_report.specs.Refusals.{lex_text, pddl_text, plan_error_text}
 use Rattle.wp_watch.specs.declared.watch.WatchKind.{WatchKind}
 use Rattle.wp_words.specs.declared.commands.Command.{Command}
-use Rattle.wp_words.specs.declared.commands.Command.TheVariants.{Check, Gen, Ground, Plan}
+use Rattle.wp_words.specs.declared.commands.Command.TheVariants.{Audit, Check, Gen, Ground, Plan}
 use Rattle.wp_check.specs.declared.cause.Verdict.{Verdict}
 use Rattle.wp_check.specs.declared.cause.Verdict.TheVariants.{Valid, Bad, GoalUnmet}
 use Rattle.wp_check.specs.Verdicts.{verdict_of}
@@ -51,14 +57,14 @@ use Rattle.wp_report.specs.Tasks.{ground_error_text}
 use Rattle.wp_gen.specs.Depot.{domain_text, problem_text}
 use Rattle.wp_app.specs.Requests.{Asked, file_of, kept_of}
 use Rattle.wp_app.specs.Steps.{Step, missing, ends, goes, reply_of, ◌>>=◌}
-use Rattle.wp_app.specs.Output.{answered, ending_reply, ending_status, ground_reply, grounded_step, searched_reply, task_by, verdict_reply, verdict_status, domain_in, domain_step, items_by, items_step, lifted_by, lifted_step, limit_of, part_of, plan_step, problem_in, problem_step, record_by, steps_by, within}
-use Rattle.wp_app.specs.Table.{answer_to_request, made_step, texts_step}
+use Rattle.wp_app.specs.Output.{answered, audit_status, audited_reply, cert_by, cert_step, ending_reply, ending_status, ground_reply, grounded_step, searched_reply, task_by, verdict_reply, verdict_status, domain_in, domain_step, items_by, items_step, lifted_by, lifted_step, limit_of, part_of, plan_step, problem_in, problem_step, record_by, steps_by, within}
+use Rattle.wp_app.specs.Table.{answer_to_request, cert_in, made_step, texts_step}
 use Rattle.wp_app.specs.Causes.{HasFaultyFile, HasFaultyNames, HasLongFile, HasTooMany, IsFaulty, IsGrounded, IsReadBefore, LimitsHaveTheirCauses, RefusalsHaveTheirCauses, TasksAreGrounded, reads_files}
-use Rattle.wp_app.specs.Meanings.{AreLifted, IsAnswered, grounds_task, texts_of}
+use Rattle.wp_app.specs.Meanings.{AreLifted, IsAnswered, grounds_task, inputs_of, texts_of}
 use Rattle.wp_app.proofs.ChainLemmas.{both, from_problem, itemized, task_goes}
 use Rattle.wp_app.proofs.EndLemmas.{AllowsRefusals, goes_past}
 use Rattle.wp_app.proofs.ReplyLemmas.{request_with}
-use Rattle.wp_app.proofs.MeaningLaws.{Watching, after_lifting, after_steps, after_texts, final, grounded_ends, grounding, judged, lifted_replies, replied, replied_checking, replied_grounding, reply_is, run_checking, run_grounding}
+use Rattle.wp_app.proofs.MeaningLaws.{Watching, after_cert, after_lifting, after_steps, after_texts, final, found_cert, grounded_ends, grounding, judged, lifted_replies, replied, replied_checking, replied_grounding, reply_is, run_certified, run_checking, run_grounding}
 
 -- ---- rows
 -- a row that ends does so at its first step, or behind it
@@ -206,6 +212,19 @@ stop_plan : (text : List ℕ) → IsFaulty parts.Plan text → Stops (plan_step 
 unfolding plan_step
 stop_plan text (error, is) = record { reply = record { text = plan_error_text error; status = statuses.Refused }; ended = ap steps_by is; so = refl }
 
+cert_stop : (read : Result (List (List ℕ)) ℕ) (reply : Reply) → cert_by read ≡ ends reply
+    → (line : ℕ) × (read ≡ Err line) × (reply.status ≡ statuses.Refused)
+cert_stop (Ok cert) reply e = cc
+cert_stop (Err line) reply e = (line, refl, own_status statuses.Refused (cert_error_text (certs.Line line)) reply e)
+
+cert_stops : (text : List ℕ) (reply : Reply) → cert_step text ≡ ends reply → IsFaulty parts.Certificate text × (reply.status ≡ statuses.Refused)
+unfolding cert_step
+cert_stops text reply e = let is = cert_stop (cert_of text) reply e in ((is.0, is.1), is.2)
+
+stop_cert : (text : List ℕ) → IsFaulty parts.Certificate text → Stops (cert_step text) statuses.Refused
+unfolding cert_step
+stop_cert text (line, is) = record { reply = record { text = cert_error_text (certs.Line line); status = statuses.Refused }; ended = ap cert_by is; so = refl }
+
 names_stop : (faults : List Fault) (value : Lifting) (reply : Reply) → lifted_by faults value ≡ ends reply → (faults ≢ []) × (reply.status ≡ statuses.Refused)
 names_stop [] value reply e = cc
 names_stop (fault ∷ faults) value reply e = ((λ none. cc), own_status statuses.Refused (pddl_text (errors.Bad fault.part fault.kind fault.at)) reply e)
@@ -279,16 +298,20 @@ reads_check domain problem plan = record { is_domain = refl; is_problem = refl; 
 pub reads_ground : (domain problem : List ℕ) → Reads (Ground domain problem) domain problem
 reads_ground domain problem = record { is_domain = refl; is_problem = refl; texts = λ files. refl }
 
-pub reads_plan : (domain problem : List ℕ) (settings : Settings) (watch : List WatchKind) (plain : Bool)
-    → Reads (Plan domain problem settings watch plain) domain problem
-reads_plan domain problem settings watch plain = record { is_domain = refl; is_problem = refl; texts = λ files. refl }
+pub reads_plan : (domain problem : List ℕ) (settings : Settings) (watch : List WatchKind) (plain closed : Bool)
+    → Reads (Plan domain problem settings watch plain closed) domain problem
+reads_plan domain problem settings watch plain closed = record { is_domain = refl; is_problem = refl; texts = λ files. refl }
+
+pub reads_audit : (domain problem certificate : List ℕ) → Reads (Audit domain problem certificate) domain problem
+reads_audit domain problem certificate = record { is_domain = refl; is_problem = refl; texts = λ files. refl }
 
 -- a command that reads files reads these two first
 pub reading : (command : Command) → reads_files command ≡ true → (domain : List ℕ) × (problem : List ℕ) × Reads command domain problem
 reading (Check domain problem plan) e = (domain, problem, reads_check domain problem plan)
 reading (Ground domain problem) e = (domain, problem, reads_ground domain problem)
-reading (Plan domain problem settings watch plain) e = (domain, problem, reads_plan domain problem settings watch plain)
+reading (Plan domain problem settings watch plain closed) e = (domain, problem, reads_plan domain problem settings watch plain closed)
 reading (Gen number size settings watch plain) e = cc
+reading (Audit domain problem certificate) e = (domain, problem, reads_audit domain problem certificate)
 
 -- ---- from an answer to its cause
 -- why a command answers as it does, where that is a refusal or a limit
@@ -306,15 +329,23 @@ ending_other KBfws Emptied = ((λ e. cc), (λ e. cc))
 ending_other search Budget = ((λ e. cc), (λ e. cc))
 ending_other search (Words pairs) = ((λ e. cc), (λ e. cc))
 
-final_other : (watchers : Watching) (command : Command) (grounded : Grounded)
-    → ((final watchers command grounded).status ≢ statuses.Refused) × ((final watchers command grounded).status ≢ statuses.Limit)
-unfolding ground_reply searched_reply ending_reply
-final_other watchers (Check domain problem plan) grounded = ((λ e. cc), (λ e. cc))
-final_other watchers (Ground domain problem) grounded = ((λ e. cc), (λ e. cc))
-final_other watchers (Plan domain problem settings watch plain) grounded =
+audit_other : (audit : Audited) → (audit_status audit ≢ statuses.Refused) × (audit_status audit ≢ statuses.Limit)
+audit_other Yes = ((λ e. cc), (λ e. cc))
+audit_other (Foreign state) = ((λ e. cc), (λ e. cc))
+audit_other NoStart = ((λ e. cc), (λ e. cc))
+audit_other (Goal state) = ((λ e. cc), (λ e. cc))
+audit_other (Open state act) = ((λ e. cc), (λ e. cc))
+
+final_other : (watchers : Watching) (files : Contents) (command : Command) (grounded : Grounded)
+    → ((final watchers files command grounded).status ≢ statuses.Refused) × ((final watchers files command grounded).status ≢ statuses.Limit)
+unfolding ground_reply searched_reply ending_reply audited_reply
+final_other watchers files (Check domain problem plan) grounded = ((λ e. cc), (λ e. cc))
+final_other watchers files (Ground domain problem) grounded = ((λ e. cc), (λ e. cc))
+final_other watchers files (Plan domain problem settings watch plain closed) grounded =
     ending_other settings.search (ending_of grounded.task settings (all_tuples grounded.task settings)).how
-final_other watchers (Gen number size settings watch plain) grounded =
+final_other watchers files (Gen number size settings watch plain) grounded =
     ending_other settings.search (ending_of grounded.task settings (all_tuples grounded.task settings)).how
+final_other watchers files (Audit domain problem certificate) grounded = audit_other (audit_of grounded.task (found_cert (cert_in certificate files)))
 
 -- a reply of one of these statuses is none of a refusal and none of a limit
 other_by : (files : Contents) (command : Command) (reply : Reply) (status : Status) → status ≡ reply.status
@@ -334,22 +365,23 @@ task_cause files command lifted does lifts (Some Memory) is made reply e =
     other_by files command reply statuses.Memory (sym (own_status statuses.Memory (ground_error_text Memory) reply e)) ((λ e. cc), (λ e. cc))
 
 grounded_cause : (watchers : Watching) (files : Contents) (command : Command) (lifted : Lifting) → grounds_task command ≡ true → AreLifted files command lifted
-    → (reply : Reply) → reply_of (after_lifting watchers command lifted) ≡ Some reply → Cause files command reply
+    → (reply : Reply) → reply_of (after_lifting watchers files command lifted) ≡ Some reply → Cause files command reply
 unfolding grounded_step
 grounded_cause watchers files command lifted does lifts reply e =
-    elim (splits (grounded_step lifted) (λ (grounded : Grounded). goes (final watchers command grounded)) reply e) [
+    elim (splits (grounded_step lifted) (λ (grounded : Grounded). goes (final watchers files command grounded)) reply e) [
       | inl first ↦ task_cause files command lifted does lifts (refusal_of lifted) refl (grounded_of lifted) reply first
       | inr rest ↦
-          other_by files command reply (final watchers command rest.0).status
-          (ap (λ (one : Reply). one.status) (reply_is (final watchers command rest.0) reply rest.2)) (final_other watchers command rest.0)
+          other_by files command reply (final watchers files command rest.0).status
+          (ap (λ (one : Reply). one.status) (reply_is (final watchers files command rest.0) reply rest.2)) (final_other watchers files command rest.0)
     ]
 
 no_plan_file : (files : Contents) (command : Command) → grounds_task command ≡ true → (name : List ℕ) → file_of command parts.Plan ≡ Some name
     → (steps : List PlanStep) × ((part_of parts.Plan name files >>= plan_step) ≡ goes steps)
 no_plan_file files (Check domain problem plan) does name e = cc
 no_plan_file files (Ground domain problem) does name e = cc
-no_plan_file files (Plan domain problem settings watch plain) does name e = cc
+no_plan_file files (Plan domain problem settings watch plain closed) does name e = cc
 no_plan_file files (Gen number size settings watch plain) does name e = cc
+no_plan_file files (Audit domain problem certificate) does name e = cc
 
 -- a text that is made can be refused alone
 made_stops : (number size : ℕ) (reply : Reply) → made_step number size ≡ ends reply → reply.status ≡ statuses.Refused
@@ -363,20 +395,45 @@ made_stops number size reply e =
       ]
     ]
 
-texts_cause : (files : Contents) (command : Command) (reply : Reply) → texts_of command files ≡ ends reply → Cause files command reply
+-- why a certificate is not read, behind the two other files
+cert_cause : (files : Contents) (domain problem certificate : List ℕ) (texts : Texts) → texts_step domain problem files ≡ goes texts → (reply : Reply)
+    → cert_in certificate files ≡ ends reply → Cause files (Audit domain problem certificate) reply
+cert_cause files domain problem certificate texts read reply e =
+    let command = Audit domain problem certificate in
+    let before : IsReadBefore files command parts.Certificate = (texts, read) in
+    elim (stops (part_of parts.Certificate certificate files) cert_step reply e) [
+      | inl first ↦ of_file (file_unread files command parts.Certificate certificate reply refl before first)
+      | inr rest ↦
+          let is = cert_stops rest.0 reply rest.2 in
+          of_file (of_fault (record { part = parts.Certificate; name = certificate; named = refl; before = before; text = rest.0; fetched = rest.1; fault = is.0 }) is.1)
+    ]
+
+audit_cause : (files : Contents) (domain problem certificate : List ℕ) (reply : Reply)
+    → inputs_of (Audit domain problem certificate) files ≡ ends reply → Cause files (Audit domain problem certificate) reply
+audit_cause files domain problem certificate reply e =
+    elim (stops (texts_step domain problem files) (λ (texts : Texts). cert_in certificate files >>= λ (cert : List (List ℕ)). goes texts) reply e) [
+      | inl first ↦ of_file (texts_unread files _ domain problem (reads_audit domain problem certificate) reply first)
+      | inr texts ↦ elim (stops (cert_in certificate files) (λ (cert : List (List ℕ)). goes texts.0) reply texts.2) [
+        | inl first ↦ cert_cause files domain problem certificate texts.0 texts.1 reply first
+        | inr cert ↦ let never = cert.2 in cc
+      ]
+    ]
+
+texts_cause : (files : Contents) (command : Command) (reply : Reply) → inputs_of command files ≡ ends reply → Cause files command reply
 texts_cause files (Check domain problem plan) reply e = of_file (texts_unread files _ domain problem (reads_check domain problem plan) reply e)
 texts_cause files (Ground domain problem) reply e = of_file (texts_unread files _ domain problem (reads_ground domain problem) reply e)
-texts_cause files (Plan domain problem settings watch plain) reply e =
-    of_file (texts_unread files _ domain problem (reads_plan domain problem settings watch plain) reply e)
+texts_cause files (Plan domain problem settings watch plain closed) reply e =
+    of_file (texts_unread files _ domain problem (reads_plan domain problem settings watch plain closed) reply e)
 texts_cause files (Gen number size settings watch plain) reply e = of_made refl (made_stops number size reply e)
+texts_cause files (Audit domain problem certificate) reply e = audit_cause files domain problem certificate reply e
 
 grounding_cause : (asked : Asked) (files : Contents) (command : Command) (reply : Reply) → IsAnswered asked files command reply
     → grounds_task command ≡ true → Cause files command reply
 grounding_cause asked files command reply is does =
     let watchers = kept_of command asked.watchers in
-    elim (splits (texts_of command files) (after_texts watchers command) reply (replied_grounding asked files command reply is does)) [
+    elim (splits (inputs_of command files) (after_texts watchers files command) reply (replied_grounding asked files command reply is does)) [
       | inl first ↦ texts_cause files command reply first
-      | inr texts ↦ elim (splits (lifted_step texts.0.domain texts.0.problem) (after_lifting watchers command) reply texts.2) [
+      | inr texts ↦ elim (splits (lifted_step texts.0.domain texts.0.problem) (after_lifting watchers files command) reply texts.2) [
         | inl faults ↦
             let so = lifted_stops texts.0.domain texts.0.problem reply faults in
             of_names (record { texts = texts.0; read = texts.1; plan = no_plan_file files command does; fault = so.0 }) so.1
@@ -431,10 +488,12 @@ checking_cause asked files domain problem plan reply is =
 cause_of : (asked : Asked) (files : Contents) (command : Command) (reply : Reply) → IsAnswered asked files command reply → Cause files command reply
 cause_of asked files (Check domain problem plan) reply is = checking_cause asked files domain problem plan reply is
 cause_of asked files (Ground domain problem) reply is = grounding_cause asked files (Ground domain problem) reply is refl
-cause_of asked files (Plan domain problem settings watch plain) reply is =
-    grounding_cause asked files (Plan domain problem settings watch plain) reply is refl
+cause_of asked files (Plan domain problem settings watch plain closed) reply is =
+    grounding_cause asked files (Plan domain problem settings watch plain closed) reply is refl
 cause_of asked files (Gen number size settings watch plain) reply is =
     grounding_cause asked files (Gen number size settings watch plain) reply is refl
+cause_of asked files (Audit domain problem certificate) reply is =
+    grounding_cause asked files (Audit domain problem certificate) reply is refl
 
 refused_by : (files : Contents) (command : Command) (reply : Reply) → reads_files command ≡ true → Cause files command reply → reply.status ≡ statuses.Refused
     → HasFaultyFile files command ⊎ HasFaultyNames files command
@@ -492,14 +551,16 @@ problem_first files domain problem status one read stop =
 -- what a command does behind its domain and problem
 abbrev pub behind : Watching → Command → Contents → Texts → Step Reply
 behind watchers (Check domain problem plan) files texts = (part_of parts.Plan plan files >>= plan_step) >>= after_steps texts
-behind watchers command files texts = after_texts watchers command texts
+behind watchers (Audit domain problem certificate) files texts = cert_in certificate files >>= after_cert texts
+behind watchers command files texts = after_texts watchers files command texts
 
 pub run_row : (command : Command) (watchers : Watching) (files : Contents)
     → answer_to_request (request_with command watchers) files ≡ (texts_of command files >>= behind watchers command files)
 run_row (Check domain problem plan) watchers files = run_checking domain problem plan watchers files
 run_row (Ground domain problem) watchers files = run_grounding (Ground domain problem) watchers files refl
-run_row (Plan domain problem settings watch plain) watchers files = run_grounding (Plan domain problem settings watch plain) watchers files refl
+run_row (Plan domain problem settings watch plain closed) watchers files = run_grounding (Plan domain problem settings watch plain closed) watchers files refl
 run_row (Gen number size settings watch plain) watchers files = run_grounding (Gen number size settings watch plain) watchers files refl
+run_row (Audit domain problem certificate) watchers files = run_certified domain problem certificate watchers files
 
 replied_row : (asked : Asked) (files : Contents) (command : Command) (reply : Reply) → IsAnswered asked files command reply
     → reply_of (texts_of command files >>= behind (kept_of command asked.watchers) command files) ≡ Some reply
@@ -553,8 +614,24 @@ plan_stopped asked files (Check domain problem plan) reply status is name named 
     (stops_first (part_of parts.Plan plan files >>= plan_step) (after_steps before.0) status
     (subst (λ (one : List ℕ). Stops (part_of parts.Plan one files >>= plan_step) status) same stop)))
 plan_stopped asked files (Ground domain problem) reply status is name named before stop = cc
-plan_stopped asked files (Plan domain problem settings watch plain) reply status is name named before stop = cc
+plan_stopped asked files (Plan domain problem settings watch plain closed) reply status is name named before stop = cc
 plan_stopped asked files (Gen number size settings watch plain) reply status is name named before stop = cc
+plan_stopped asked files (Audit domain problem certificate) reply status is name named before stop = cc
+
+cert_stopped : (asked : Asked) (files : Contents) (command : Command) (reply : Reply) (status : Status) → IsAnswered asked files command reply
+    → (name : List ℕ) → file_of command parts.Certificate ≡ Some name → IsReadBefore files command parts.Certificate
+    → Stops (cert_in name files) status → reply.status ≡ status
+cert_stopped asked files (Check domain problem plan) reply status is name named before stop = cc
+cert_stopped asked files (Ground domain problem) reply status is name named before stop = cc
+cert_stopped asked files (Plan domain problem settings watch plain closed) reply status is name named before stop = cc
+cert_stopped asked files (Gen number size settings watch plain) reply status is name named before stop = cc
+cert_stopped asked files (Audit domain problem certificate) reply status is name named before stop =
+    let command = Audit domain problem certificate in
+    let same : name ≡ certificate = cc in
+    row_stopped asked files command reply status is
+    (stops_behind (texts_step domain problem files) (behind (kept_of command asked.watchers) command files) status before.0 before.1
+    (stops_first (cert_in certificate files) (after_cert before.0) status
+    (subst (λ (one : List ℕ). Stops (cert_in one files) status) same stop)))
 
 faulty_refused : (asked : Asked) (files : Contents) (command : Command) (reply : Reply) → IsAnswered asked files command reply → reads_files command ≡ true
     → (part : Part) (name : List ℕ) → file_of command part ≡ Some name → IsReadBefore files command part → (text : List ℕ)
@@ -568,6 +645,9 @@ faulty_refused asked files command reply is reads parts.Problem name named befor
 faulty_refused asked files command reply is reads parts.Plan name named before text fetched fault =
     plan_stopped asked files command reply statuses.Refused is name named before
     (stops_behind (part_of parts.Plan name files) plan_step statuses.Refused text fetched (stop_plan text fault))
+faulty_refused asked files command reply is reads parts.Certificate name named before text fetched fault =
+    cert_stopped asked files command reply statuses.Refused is name named before
+    (stops_behind (part_of parts.Certificate name files) cert_step statuses.Refused text fetched (stop_cert text fault))
 
 long_limited : (asked : Asked) (files : Contents) (command : Command) (reply : Reply) → IsAnswered asked files command reply → reads_files command ≡ true
     → (part : Part) (name : List ℕ) → file_of command part ≡ Some name → IsReadBefore files command part → (bytes : List ℕ)
@@ -581,6 +661,9 @@ long_limited asked files command reply is reads parts.Problem name named before 
 long_limited asked files command reply is reads parts.Plan name named before bytes there long =
     plan_stopped asked files command reply statuses.Limit is name named before
     (stops_first (part_of parts.Plan name files) plan_step statuses.Limit (long_stops parts.Plan name files bytes there long))
+long_limited asked files command reply is reads parts.Certificate name named before bytes there long =
+    cert_stopped asked files command reply statuses.Limit is name named before
+    (stops_first (part_of parts.Certificate name files) cert_step statuses.Limit (long_stops parts.Certificate name files bytes there long))
 
 names_stopped : (asked : Asked) (files : Contents) (command : Command) (reply : Reply) → IsAnswered asked files command reply → grounds_task command ≡ true
     → HasFaultyNames files command → reply.status ≡ statuses.Refused
@@ -588,8 +671,8 @@ names_stopped asked files command reply is does has =
     let watchers = kept_of command asked.watchers in
     let texts = has.texts in
     stopped _ statuses.Refused reply
-    (stops_behind (texts_of command files) (after_texts watchers command) statuses.Refused texts has.read
-    (stops_first (lifted_step texts.domain texts.problem) (after_lifting watchers command) statuses.Refused (stop_lifted texts.domain texts.problem has.fault)))
+    (stops_behind (inputs_of command files) (after_texts watchers files command) statuses.Refused texts has.read
+    (stops_first (lifted_step texts.domain texts.problem) (after_lifting watchers files command) statuses.Refused (stop_lifted texts.domain texts.problem has.fault)))
     (replied_grounding asked files command reply is does)
 
 names_refused : (asked : Asked) (files : Contents) (command : Command) (reply : Reply) → IsAnswered asked files command reply
@@ -602,10 +685,12 @@ names_refused asked files (Check domain problem plan) reply is has =
     (stops_behind (part_of parts.Plan plan files >>= plan_step) (after_steps texts) statuses.Refused read.0 read.1
     (stops_first (lifted_step texts.domain texts.problem) (λ (one : Lifting). judged one read.0) statuses.Refused (stop_lifted texts.domain texts.problem has.fault))))
 names_refused asked files (Ground domain problem) reply is has = names_stopped asked files (Ground domain problem) reply is refl has
-names_refused asked files (Plan domain problem settings watch plain) reply is has =
-    names_stopped asked files (Plan domain problem settings watch plain) reply is refl has
+names_refused asked files (Plan domain problem settings watch plain closed) reply is has =
+    names_stopped asked files (Plan domain problem settings watch plain closed) reply is refl has
 names_refused asked files (Gen number size settings watch plain) reply is has =
     names_stopped asked files (Gen number size settings watch plain) reply is refl has
+names_refused asked files (Audit domain problem certificate) reply is has =
+    names_stopped asked files (Audit domain problem certificate) reply is refl has
 
 refused_here : (asked : Asked) (files : Contents) (command : Command) (reply : Reply) → IsAnswered asked files command reply → reads_files command ≡ true
     → HasFaultyFile files command ⊎ HasFaultyNames files command → reply.status ≡ statuses.Refused
@@ -626,7 +711,7 @@ unfolding grounded_step
 many_limited asked files command reply is has =
     let watchers = kept_of command asked.watchers in
     stopped _ statuses.Limit reply
-    (stops_first (grounded_step has.lifted) (λ (grounded : Grounded). goes (final watchers command grounded)) statuses.Limit
+    (stops_first (grounded_step has.lifted) (λ (grounded : Grounded). goes (final watchers files command grounded)) statuses.Limit
     (task_stops (refusal_of has.lifted) (grounded_of has.lifted) has.many))
     (lifted_replies asked files command reply has.lifted is has.grounds has.lifts)
 
@@ -634,8 +719,9 @@ many_limited asked files command reply is has =
 pub named_reads : (command : Command) (part : Part) (name : List ℕ) → file_of command part ≡ Some name → reads_files command ≡ true
 named_reads (Check domain problem plan) part name e = refl
 named_reads (Ground domain problem) part name e = refl
-named_reads (Plan domain problem settings watch plain) part name e = refl
+named_reads (Plan domain problem settings watch plain closed) part name e = refl
 named_reads (Gen number size settings watch plain) part name e = cc
+named_reads (Audit domain problem certificate) part name e = refl
 
 limited_here : (asked : Asked) (files : Contents) (command : Command) (reply : Reply) → IsAnswered asked files command reply
     → HasLongFile files command ⊎ HasTooMany files command → reply.status ≡ statuses.Limit
@@ -662,7 +748,7 @@ grounded_there asked files domain problem reply is done =
     let early : AllowsRefusals NotDone = record { limit = λ e. cc; fault = λ e. cc } in
     let of = grounding NotDone early asked files command reply is refl (λ not_done. not_done done) in
     let task =
-    goes_past NotDone (grounded_step of.lifted) (λ (grounded : Grounded). goes (final (kept_of command asked.watchers) command grounded)) reply
+    goes_past NotDone (grounded_step of.lifted) (λ (grounded : Grounded). goes (final (kept_of command asked.watchers) files command grounded)) reply
     (grounded_ends NotDone early (λ e. cc) (λ e. cc) of.lifted) of.replies (λ not_done. not_done done) in
     record { lifted = of.lifted; lifts = of.lifts; admitted = (task_goes of.lifted task.0 task.1).0 }
 
@@ -672,9 +758,9 @@ unfolding grounded_step ground_reply
 grounded_here asked files domain problem reply is so =
     let command = Ground domain problem in
     let last =
-    sym (ap (λ (refusal : Option GroundError). reply_of (task_by refusal (grounded_of so.lifted) >>= λ (grounded : Grounded). goes (final (kept_of command asked.watchers) command grounded))) so.admitted)
+    sym (ap (λ (refusal : Option GroundError). reply_of (task_by refusal (grounded_of so.lifted) >>= λ (grounded : Grounded). goes (final (kept_of command asked.watchers) files command grounded))) so.admitted)
     ∙ lifted_replies asked files command reply so.lifted is refl so.lifts in
-    sym (ap (λ (one : Reply). one.status) (reply_is (final (kept_of command asked.watchers) command (grounded_of so.lifted)) reply last))
+    sym (ap (λ (one : Reply). one.status) (reply_is (final (kept_of command asked.watchers) files command (grounded_of so.lifted)) reply last))
 
 pub tasks : TasksAreGrounded
 tasks asked files domain problem reply is =

@@ -187,3 +187,8 @@ texts_are_comments join [] events = no_comments
 texts_are_comments join (watcher ∷ watchers) events =
     join (says watcher.0 (wanted_of watcher.1 events)) (flat_map (λ (text : List ℕ). text) (texts_after watchers events))
     (says_comments join watcher.0 (wanted_of watcher.1 events)) (texts_are_comments join watchers events)
+
+-- the line that there is no plan, with the counts of a search
+pub emptied_is_comment : (counts : Counts) → AreComments (line (codes "; no plan " ++ counts_text counts))
+emptied_is_comment counts =
+    commented (codes " no plan " ++ counts_text counts) (joined (codes " no plan ") (counts_text counts) refl (counts_run counts))

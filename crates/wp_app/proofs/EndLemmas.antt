@@ -24,13 +24,14 @@ use Rattle.wp_app.specs.declared.reply.Status.{Status}
 use Rattle.wp_app.specs.declared.reply.Status.TheVariants as statuses
 use Rattle.wp_app.specs.declared.inputs.Texts.{Texts}
 use Rattle.wp_app.specs.Steps.{Step, missing, ends, goes, reply_of, ◌>>=◌}
-use Rattle.wp_app.specs.Output.{limit_of, answered, within, part_of, items_by, items_step, record_by, domain_in, problem_in, domain_step, problem_step, lifted_by, lifted_step, plan_step, steps_by}
+use Rattle.wp_app.specs.Output.{limit_of, answered, within, part_of, items_by, items_step, record_by, domain_in, problem_in, domain_step, problem_step, lifted_by, lifted_step, plan_step, steps_by, cert_by, cert_step}
 use Rattle.wp_app.specs.Table.{made_step, texts_step}
 use Rattle.wp_app.proofs.ChainLemmas.{both, from_problem}
 use Rattle.std.specs.Prelude.{Result, Ok, Err}
 use Rattle.wp_check.specs.declared.step.Step.{Step as PlanStep}
 use Rattle.wp_check.specs.declared.step.PlanError.{PlanError}
 use Rattle.wp_check.specs.PlanFile.{plan_of}
+use Rattle.wp_cert.specs.Format.{cert_of}
 use Rattle.wp_gen.specs.Depot.{domain_text, problem_text}
 
 -- where the step ends, its status is one of these
@@ -137,6 +138,18 @@ unfolding plan_step
 steps_end P early plan files =
     ends_in_row P (part_of parts.Plan plan files) (λ (text : List ℕ). steps_by (plan_of text)) (part_ends P early parts.Plan plan files)
     (λ (text : List ℕ). plan_by_ends P early (plan_of text))
+
+cert_by_ends : (P : Status → Type 0) → AllowsRefusals P → (read : Result (List (List ℕ)) ℕ) → EndsIn {A = List (List ℕ)} P (cert_by read)
+cert_by_ends P early (Ok cert) = tt
+cert_by_ends P early (Err line) = early.fault
+
+-- of a certificate
+pub cert_ends : (P : Status → Type 0) → AllowsRefusals P → (certificate : List ℕ) (files : Contents)
+    → EndsIn {A = List (List ℕ)} P (part_of parts.Certificate certificate files >>= cert_step)
+unfolding cert_step
+cert_ends P early certificate files =
+    ends_in_row P (part_of parts.Certificate certificate files) (λ (text : List ℕ). cert_by (cert_of text)) (part_ends P early parts.Certificate certificate files)
+    (λ (text : List ℕ). cert_by_ends P early (cert_of text))
 
 -- ---- names and the task
 names_ends : (P : Status → Type 0) → AllowsRefusals P → (faults : List Fault) (value : Lifting)

@@ -1,5 +1,5 @@
 -- The answer to `gen` from the steps that have no fault.
-use Rattle.std.proofs.Common.{◌≡◌, ℕ, Bool, true, List, [], refl, sym, ap, ◌∙◌, subst}
+use Rattle.std.proofs.Common.{◌≡◌, ℕ, Bool, true, List, refl, sym, ap, ◌∙◌, subst}
 use Rattle.std.specs.Prelude.{Option, None, Some}
 use Rattle.wp_edge.specs.Fetch.{Contents}
 use Rattle.wp_lex.specs.declared.error.LexError.{LexError}
@@ -32,11 +32,10 @@ use Rattle.wp_gen.specs.Laws.{AreRead, DepotTasksAreRead}
 use Rattle.wp_words.specs.declared.commands.Command.TheVariants.{Gen}
 use Rattle.wp_app.specs.declared.reply.Reply.{Reply}
 use Rattle.wp_app.specs.declared.inputs.Texts.{Texts}
-use Rattle.wp_app.specs.Requests.{Asked, kept_of}
+use Rattle.wp_app.specs.Requests.{kept_of}
 use Rattle.wp_app.specs.Steps.{Step, goes, reply_of, ◌>>=◌}
 use Rattle.wp_app.specs.Output.{domain_in, domain_step, ending_reply, ending_status, grounded_step, items_by, items_step, lifted_by, lifted_step, named, problem_in, problem_step, record_by, searched_reply, task_by}
 use Rattle.wp_app.specs.Table.{answer_to_gen, answer_to_request, made_step}
-use Rattle.wp_app.specs.Meanings.{IsAnswered}
 use Rattle.wp_app.specs.Generated.{MadeTasksAreNotRefused, is_of_made}
 use Rattle.wp_app.proofs.ChainLemmas.{never_memory}
 use Rattle.wp_app.proofs.ReplyLemmas.{request_with, steps_commanded}

@@ -11,7 +11,9 @@ pub mod CommentLemmas
 pub mod AnswerLaws
 pub mod EndLemmas
 pub mod StatusLaws
+pub mod ClosedLaws
 pub mod MeaningLaws
+pub mod AuditLaws
 pub mod GeneratedLaws
 pub mod CauseLaws
 pub mod WordLaws

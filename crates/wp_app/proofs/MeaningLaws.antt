@@ -1,5 +1,5 @@
 -- What the statuses of answers mean, from the steps of each command.
-use Rattle.std.proofs.Common.{◌≡◌, ◌≢◌, ℕ, Bool, true, false, List, refl, sym, ap, ◌∙◌, subst, inl, inr}
+use Rattle.std.proofs.Common.{◌≡◌, ◌≢◌, ℕ, Bool, true, false, List, [], refl, sym, ap, ◌∙◌, subst, inl, inr}
 use Rattle.std.specs.Prelude.{Option, None, Some}
 use Rattle.std.proofs.lemmas.Bool.{both_ways}
 use Rattle.wp_edge.specs.Fetch.{Contents}
@@ -32,45 +32,88 @@ use Rattle.wp_plain.specs.Pairs.{all_tuples}
 use Rattle.wp_plain.specs.Run.{ending_of}
 use Rattle.wp_watch.specs.declared.watch.WatchKind.{WatchKind}
 use Rattle.wp_words.specs.declared.commands.Command.{Command}
-use Rattle.wp_words.specs.declared.commands.Command.TheVariants.{Check, Gen, Ground, Plan}
+use Rattle.wp_words.specs.declared.commands.Command.TheVariants.{Audit, Check, Gen, Ground, Plan}
+use Rattle.wp_cert.specs.declared.answer.Audit.{Audit as Audited}
+use Rattle.wp_cert.specs.declared.answer.Audit.TheVariants.{Yes, Foreign, NoStart, Goal, Open}
+use Rattle.wp_cert.specs.Audits.{audit_of}
 use Rattle.wp_app.specs.declared.reply.Reply.{Reply}
 use Rattle.wp_app.specs.declared.reply.Status.{Status}
 use Rattle.wp_app.specs.declared.reply.Status.TheVariants as statuses
 use Rattle.wp_app.specs.declared.inputs.Texts.{Texts}
 use Rattle.wp_app.specs.Requests.{Asked, kept_of}
 use Rattle.wp_app.specs.Steps.{Step, missing, ends, goes, reply_of, ◌>>=◌}
-use Rattle.wp_app.specs.Output.{ending_reply, ending_status, ground_reply, grounded_step, lifted_step, named, part_of, plan_step, searched_reply, task_by, verdict_reply, verdict_status, whole}
-use Rattle.wp_app.specs.Table.{answer_to_check, answer_to_gen, answer_to_ground, answer_to_plan, answer_to_request, texts_step}
-use Rattle.wp_app.specs.Meanings.{AnswersAreOfTheirCommands, AreLifted, DoneChecksHaveValidPlans, EndingsHaveTheirStatuses, EndsSo, HasInvalidPlan, HasValidPlan, HaveNoPlan, InvalidChecksHaveInvalidPlans, IsAnswered, IsJudged, IsOutOfReach, NoPlanIsTrue, UnreachedGoalsAreAnswered, grounds_task, is_of, is_of_check, is_of_ending, is_of_search, settings_of, texts_of}
+use Rattle.wp_app.specs.Output.{audited_reply, audit_status, ending_reply, ending_status, ground_reply, grounded_step, lifted_step, named, part_of, plan_step, searched_reply, task_by, verdict_reply, verdict_status, whole}
+use Rattle.wp_app.specs.Table.{answer_to_audit, answer_to_check, answer_to_gen, answer_to_ground, answer_to_plan, answer_to_request, cert_in, texts_step}
+use Rattle.wp_app.specs.Meanings.{AnswersAreOfTheirCommands, AreLifted, DoneChecksHaveValidPlans, EndingsHaveTheirStatuses, EndsSo, HasInvalidPlan, HasValidPlan, HaveNoPlan, InvalidChecksHaveInvalidPlans, IsAnswered, IsJudged, IsOutOfReach, NoPlanIsTrue, UnreachedGoalsAreAnswered, grounds_task, is_of, is_of_audit, is_of_check, is_of_ending, is_of_search, settings_of, inputs_of}
 use Rattle.wp_app.proofs.AnswerLaws.{valid_in_task}
 use Rattle.wp_app.proofs.ChainLemmas.{admitted, lifted_finely, never_memory, out_of_reach, task_goes}
-use Rattle.wp_app.proofs.EndLemmas.{AllowsRefusals, EndsIn, goes_past, lifted_ends, made_ends, steps_end, texts_ends}
+use Rattle.wp_app.proofs.EndLemmas.{AllowsRefusals, EndsIn, cert_ends, ends_in_row, goes_past, lifted_ends, made_ends, steps_end, texts_ends}
 use Rattle.wp_app.proofs.ReplyLemmas.{request_with, steps_commanded}
 
 abbrev pub Watching : Type 0
 Watching = List (WatchKind × Option ℕ)
 
 -- ---- the steps of a command
+-- the certificate that a step goes on with
+abbrev pub found_cert : Step (List (List ℕ)) → List (List ℕ)
+found_cert missing = []
+found_cert (ends reply) = []
+found_cert (goes cert) = cert
+
 -- what is answered where there is a task
-abbrev pub final : Watching → Command → Grounded → Reply
-final watchers (Check domain problem plan) grounded = ground_reply grounded
-final watchers (Ground domain problem) grounded = ground_reply grounded
-final watchers (Plan domain problem settings watch plain) grounded = searched_reply whole settings watchers grounded
-final watchers (Gen number size settings watch plain) grounded = searched_reply (named number size) settings watchers grounded
+abbrev pub final : Watching → Contents → Command → Grounded → Reply
+final watchers files (Check domain problem plan) grounded = ground_reply grounded
+final watchers files (Ground domain problem) grounded = ground_reply grounded
+final watchers files (Plan domain problem settings watch plain closed) grounded = searched_reply (whole closed) settings watchers grounded
+final watchers files (Gen number size settings watch plain) grounded = searched_reply (named number size) settings watchers grounded
+final watchers files (Audit domain problem certificate) grounded = audited_reply grounded (found_cert (cert_in certificate files))
 
-abbrev pub after_lifting : Watching → Command → Lifting → Step Reply
-after_lifting watchers command lifted = grounded_step lifted >>= λ (grounded : Grounded). goes (final watchers command grounded)
+abbrev pub after_lifting : Watching → Contents → Command → Lifting → Step Reply
+after_lifting watchers files command lifted = grounded_step lifted >>= λ (grounded : Grounded). goes (final watchers files command grounded)
 
-abbrev pub after_texts : Watching → Command → Texts → Step Reply
-after_texts watchers command texts = lifted_step texts.domain texts.problem >>= λ (lifted : Lifting). after_lifting watchers command lifted
+abbrev pub after_texts : Watching → Contents → Command → Texts → Step Reply
+after_texts watchers files command texts = lifted_step texts.domain texts.problem >>= λ (lifted : Lifting). after_lifting watchers files command lifted
+
+-- what is asked of a certificate where it is read
+abbrev pub after_cert : Texts → List (List ℕ) → Step Reply
+after_cert texts cert = lifted_step texts.domain texts.problem >>= λ (lifted : Lifting). grounded_step lifted >>= λ (grounded : Grounded). goes (audited_reply grounded cert)
+
+in_two : {A B C : Type 0} (first : Step A) (second : A → Step B) (next : B → Step C)
+    → (first >>= λ (one : A). second one >>= next) ≡ ((first >>= second) >>= next)
+in_two missing second next = refl
+in_two (ends reply) second next = refl
+in_two (goes value) second next = refl
+
+read_before : (texts : Texts) (read : Step (List (List ℕ)))
+    → (read >>= after_cert texts) ≡ ((read >>= λ (cert : List (List ℕ)). goes texts) >>= λ (one : Texts). after_cert one (found_cert read))
+read_before texts missing = refl
+read_before texts (ends reply) = refl
+read_before texts (goes cert) = refl
+
+-- reading a certificate, and what follows
+pub run_certified : (domain problem certificate : List ℕ) (watchers : Watching) (files : Contents)
+    → answer_to_request (request_with (Audit domain problem certificate) watchers) files
+    ≡ (texts_step domain problem files >>= λ (texts : Texts). cert_in certificate files >>= after_cert texts)
+unfolding answer_to_request answer_to_audit
+run_certified domain problem certificate watchers files = refl
+
+run_auditing : (domain problem certificate : List ℕ) (watchers : Watching) (files : Contents)
+    → answer_to_request (request_with (Audit domain problem certificate) watchers) files
+    ≡ (inputs_of (Audit domain problem certificate) files >>= λ (texts : Texts). after_texts watchers files (Audit domain problem certificate) texts)
+run_auditing domain problem certificate watchers files =
+    run_certified domain problem certificate watchers files
+    ∙ (λ i. texts_step domain problem files >>= λ (texts : Texts). read_before texts (cert_in certificate files) i)
+    ∙ in_two (texts_step domain problem files) (λ (texts : Texts). cert_in certificate files >>= λ (cert : List (List ℕ)). goes texts)
+    (λ (one : Texts). after_cert one (found_cert (cert_in certificate files)))
 
 pub run_grounding : (command : Command) (watchers : Watching) (files : Contents) → grounds_task command ≡ true
-    → answer_to_request (request_with command watchers) files ≡ (texts_of command files >>= λ (texts : Texts). after_texts watchers command texts)
+    → answer_to_request (request_with command watchers) files ≡ (inputs_of command files >>= λ (texts : Texts). after_texts watchers files command texts)
 unfolding answer_to_request answer_to_ground answer_to_plan answer_to_gen
 run_grounding (Check domain problem plan) watchers files e = cc
 run_grounding (Ground domain problem) watchers files e = refl
-run_grounding (Plan domain problem settings watch plain) watchers files e = refl
+run_grounding (Plan domain problem settings watch plain closed) watchers files e = refl
 run_grounding (Gen number size settings watch plain) watchers files e = refl
+run_grounding (Audit domain problem certificate) watchers files e = run_auditing domain problem certificate watchers files
 
 abbrev pub judged : Lifting → List PlanStep → Step Reply
 judged lifted steps = goes (verdict_reply lifted steps)
@@ -92,7 +135,7 @@ replied asked files command reply is = sym (ap reply_of (steps_commanded asked c
 
 pub replied_grounding : (asked : Asked) (files : Contents) (command : Command) (reply : Reply) → IsAnswered asked files command reply
     → grounds_task command ≡ true
-    → reply_of (texts_of command files >>= λ (texts : Texts). after_texts (kept_of command asked.watchers) command texts) ≡ Some reply
+    → reply_of (inputs_of command files >>= λ (texts : Texts). after_texts (kept_of command asked.watchers) files command texts) ≡ Some reply
 replied_grounding asked files command reply is does =
     sym (ap reply_of (run_grounding command (kept_of command asked.watchers) files does)) ∙ replied asked files command reply is
 
@@ -102,27 +145,31 @@ replied_checking asked files domain problem plan reply is =
     sym (ap reply_of (run_checking domain problem plan (kept_of (Check domain problem plan) asked.watchers) files))
     ∙ replied asked files (Check domain problem plan) reply is
 
-command_ends : (P : Status → Type 0) → AllowsRefusals P → (command : Command) (files : Contents) → EndsIn {A = Texts} P (texts_of command files)
+command_ends : (P : Status → Type 0) → AllowsRefusals P → (command : Command) (files : Contents) → EndsIn {A = Texts} P (inputs_of command files)
 command_ends P early (Check domain problem plan) files = texts_ends P early domain problem files
 command_ends P early (Ground domain problem) files = texts_ends P early domain problem files
-command_ends P early (Plan domain problem settings watch plain) files = texts_ends P early domain problem files
+command_ends P early (Plan domain problem settings watch plain closed) files = texts_ends P early domain problem files
 command_ends P early (Gen number size settings watch plain) files = made_ends P early number size
+command_ends P early (Audit domain problem certificate) files =
+    ends_in_row P (texts_step domain problem files) (λ (texts : Texts). cert_in certificate files >>= λ (cert : List (List ℕ)). goes texts)
+    (texts_ends P early domain problem files)
+    (λ (texts : Texts). ends_in_row P (cert_in certificate files) (λ (cert : List (List ℕ)). goes texts) (cert_ends P early certificate files) (λ (cert : List (List ℕ)). tt))
 
 -- ---- a lifted problem
 -- an answer whose status is not that of a refusal is one of a lifted problem
 pub record Grounding (files : Contents) (command : Command) (watchers : Watching) (reply : Reply) : Type 0 where
   pub lifted : Lifting
   pub lifts : AreLifted files command lifted
-  pub replies : reply_of (after_lifting watchers command lifted) ≡ Some reply
+  pub replies : reply_of (after_lifting watchers files command lifted) ≡ Some reply
 
 pub grounding : (P : Status → Type 0) → AllowsRefusals P → (asked : Asked) (files : Contents) (command : Command) (reply : Reply)
     → IsAnswered asked files command reply → grounds_task command ≡ true → (P reply.status → ⊥)
     → Grounding files command (kept_of command asked.watchers) reply
 grounding P early asked files command reply is does other =
     let watchers = kept_of command asked.watchers in
-    let first = goes_past P (texts_of command files) (after_texts watchers command) reply (command_ends P early command files) (replied_grounding asked files command reply is does) other in
+    let first = goes_past P (inputs_of command files) (after_texts watchers files command) reply (command_ends P early command files) (replied_grounding asked files command reply is does) other in
     let second =
-    goes_past P (lifted_step first.0.domain first.0.problem) (after_lifting watchers command) reply
+    goes_past P (lifted_step first.0.domain first.0.problem) (after_lifting watchers files command) reply
     (lifted_ends P early first.0.domain first.0.problem) first.2 other in record {
       lifted = second.0;
       lifts = record { texts = first.0; read = first.1; lifts = second.1 };
@@ -131,14 +178,14 @@ grounding P early asked files command reply is does other =
 
 -- and from a lifted problem the answer goes on so
 pub lifted_replies : (asked : Asked) (files : Contents) (command : Command) (reply : Reply) (lifted : Lifting) → IsAnswered asked files command reply
-    → grounds_task command ≡ true → AreLifted files command lifted → reply_of (after_lifting (kept_of command asked.watchers) command lifted) ≡ Some reply
+    → grounds_task command ≡ true → AreLifted files command lifted → reply_of (after_lifting (kept_of command asked.watchers) files command lifted) ≡ Some reply
 lifted_replies asked files command reply lifted is does lifts =
     let watchers = kept_of command asked.watchers in
-    sym (ap (λ (step : Step Texts). reply_of (step >>= λ (texts : Texts). after_texts watchers command texts)) lifts.read
-    ∙ ap (λ (step : Step Lifting). reply_of (step >>= λ (one : Lifting). after_lifting watchers command one)) lifts.lifts)
+    sym (ap (λ (step : Step Texts). reply_of (step >>= λ (texts : Texts). after_texts watchers files command texts)) lifts.read
+    ∙ ap (λ (step : Step Lifting). reply_of (step >>= λ (one : Lifting). after_lifting watchers files command one)) lifts.lifts)
     ∙ replied_grounding asked files command reply is does
 
-formed_of : LiftingsAreFormed → (files : Contents) (command : Command) (lifted : Lifting) → AreLifted files command lifted → IsFormed lifted
+pub formed_of : LiftingsAreFormed → (files : Contents) (command : Command) (lifted : Lifting) → AreLifted files command lifted → IsFormed lifted
 formed_of formed files command lifted lifts =
     formed lifts.texts.domain lifts.texts.problem lifted (lifted_finely lifts.texts.domain lifts.texts.problem lifted lifts.lifts)
 
@@ -146,18 +193,20 @@ formed_of formed files command lifted lifts =
 searches : (command : Command) (settings : Settings) → settings_of command ≡ Some settings → grounds_task command ≡ true
 searches (Check domain problem plan) settings e = cc
 searches (Ground domain problem) settings e = cc
-searches (Plan domain problem other watch plain) settings e = refl
+searches (Plan domain problem other watch plain closed) settings e = refl
 searches (Gen number size other watch plain) settings e = refl
+searches (Audit domain problem certificate) settings e = cc
 
-final_status : (watchers : Watching) (command : Command) (settings : Settings) (grounded : Grounded) → settings_of command ≡ Some settings
-    → (final watchers command grounded).status ≡ ending_status settings.search (ending_of grounded.task settings (all_tuples grounded.task settings)).how
+final_status : (watchers : Watching) (files : Contents) (command : Command) (settings : Settings) (grounded : Grounded) → settings_of command ≡ Some settings
+    → (final watchers files command grounded).status ≡ ending_status settings.search (ending_of grounded.task settings (all_tuples grounded.task settings)).how
 unfolding searched_reply ending_reply
-final_status watchers (Check domain problem plan) settings grounded e = cc
-final_status watchers (Ground domain problem) settings grounded e = cc
-final_status watchers (Plan domain problem other watch plain) settings grounded e =
+final_status watchers files (Check domain problem plan) settings grounded e = cc
+final_status watchers files (Ground domain problem) settings grounded e = cc
+final_status watchers files (Plan domain problem other watch plain closed) settings grounded e =
     let same : other ≡ settings = cc in ap (λ (one : Settings). ending_status one.search (ending_of grounded.task one (all_tuples grounded.task one)).how) same
-final_status watchers (Gen number size other watch plain) settings grounded e =
+final_status watchers files (Gen number size other watch plain) settings grounded e =
     let same : other ≡ settings = cc in ap (λ (one : Settings). ending_status one.search (ending_of grounded.task one (all_tuples grounded.task one)).how) same
+final_status watchers files (Audit domain problem certificate) settings grounded e = cc
 
 -- the statuses of refusals by grounding
 task_ends : (P : Status → Type 0) → AllowsRefusals P → P statuses.OutOfReach → P statuses.Memory → (refusal : Option GroundError) (made : Grounded)
@@ -198,13 +247,13 @@ ending_there asked files command settings reply is asks ending =
     let watchers = kept_of command asked.watchers in
     let of = grounding NoEnding early asked files command reply is (searches command settings asks) other in
     let task =
-    goes_past NoEnding (grounded_step of.lifted) (λ (grounded : Grounded). goes (final watchers command grounded)) reply
+    goes_past NoEnding (grounded_step of.lifted) (λ (grounded : Grounded). goes (final watchers files command grounded)) reply
     (grounded_ends NoEnding early refl refl of.lifted) of.replies other in
     let end = ending_of task.0.task settings (all_tuples task.0.task settings) in (
       end,
       record { asks = asks; lifted = of.lifted; lifts = of.lifts; grounded = task.0; grounds = task.1; ends = refl },
-      sym (final_status watchers command settings task.0 asks)
-          ∙ ap (λ (one : Reply). one.status) (reply_is (final watchers command task.0) reply task.2),
+      sym (final_status watchers files command settings task.0 asks)
+          ∙ ap (λ (one : Reply). one.status) (reply_is (final watchers files command task.0) reply task.2),
     )
 
 ending_here : (asked : Asked) (files : Contents) (command : Command) (settings : Settings) (reply : Reply)
@@ -214,10 +263,10 @@ ending_here asked files command settings reply is ending so =
     let watchers = kept_of command asked.watchers in
     let does = searches command settings so.asks in
     let last =
-    sym (ap (λ (step : Step Grounded). reply_of (step >>= λ (one : Grounded). goes (final watchers command one))) so.grounds)
+    sym (ap (λ (step : Step Grounded). reply_of (step >>= λ (one : Grounded). goes (final watchers files command one))) so.grounds)
     ∙ lifted_replies asked files command reply so.lifted is does so.lifts in
-    ap (λ (one : Reply). one.status) (sym (reply_is (final watchers command so.grounded) reply last))
-    ∙ final_status watchers command settings so.grounded so.asks
+    ap (λ (one : Reply). one.status) (sym (reply_is (final watchers files command so.grounded) reply last))
+    ∙ final_status watchers files command settings so.grounded so.asks
     ∙ ap (λ (end : Ending). ending_status settings.search end.how) so.ends
 
 pub endings_have : EndingsHaveTheirStatuses
@@ -235,12 +284,20 @@ no_ending_out KBfws Emptied e = cc
 no_ending_out search Budget e = cc
 no_ending_out search (Words pairs) e = cc
 
-final_reached : (watchers : Watching) (command : Command) (grounded : Grounded) → (final watchers command grounded).status ≡ statuses.OutOfReach → ⊥
-unfolding ground_reply searched_reply ending_reply
-final_reached watchers (Check domain problem plan) grounded e = cc
-final_reached watchers (Ground domain problem) grounded e = cc
-final_reached watchers (Plan domain problem settings watch plain) grounded e = no_ending_out settings.search (ending_of grounded.task settings (all_tuples grounded.task settings)).how e
-final_reached watchers (Gen number size settings watch plain) grounded e = no_ending_out settings.search (ending_of grounded.task settings (all_tuples grounded.task settings)).how e
+no_audit_out : (audit : Audited) → audit_status audit ≡ statuses.OutOfReach → ⊥
+no_audit_out Yes e = cc
+no_audit_out (Foreign state) e = cc
+no_audit_out NoStart e = cc
+no_audit_out (Goal state) e = cc
+no_audit_out (Open state act) e = cc
+
+final_reached : (watchers : Watching) (files : Contents) (command : Command) (grounded : Grounded) → (final watchers files command grounded).status ≡ statuses.OutOfReach → ⊥
+unfolding ground_reply searched_reply ending_reply audited_reply
+final_reached watchers files (Check domain problem plan) grounded e = cc
+final_reached watchers files (Ground domain problem) grounded e = cc
+final_reached watchers files (Plan domain problem settings watch plain closed) grounded e = no_ending_out settings.search (ending_of grounded.task settings (all_tuples grounded.task settings)).how e
+final_reached watchers files (Gen number size settings watch plain) grounded e = no_ending_out settings.search (ending_of grounded.task settings (all_tuples grounded.task settings)).how e
+final_reached watchers files (Audit domain problem certificate) grounded e = no_audit_out (audit_of grounded.task (found_cert (cert_in certificate files))) e
 
 -- the cause of an answer that a goal is out of reach
 cause_of : (refusal : Option GroundError) (made : Grounded) (next : Grounded → Reply) (reply : Reply)
@@ -265,7 +322,7 @@ out_there asked files command reply is does out =
     let watchers = kept_of command asked.watchers in
     let of = grounding NotOut early asked files command reply is does (λ not_out. not_out out) in
     let cause =
-    cause_of (refusal_of of.lifted) (grounded_of of.lifted) (final watchers command) reply (final_reached watchers command) of.replies out in
+    cause_of (refusal_of of.lifted) (grounded_of of.lifted) (final watchers files command) reply (final_reached watchers files command) of.replies out in
     (of.lifted, of.lifts, cause.0, cause.1, cause.2)
 
 out_here : (asked : Asked) (files : Contents) (command : Command) (reply : Reply) → IsAnswered asked files command reply
@@ -275,7 +332,7 @@ out_here asked files command reply is does out =
     let watchers = kept_of command asked.watchers in
     let replies = lifted_replies asked files command reply out.0 is does out.1 in
     let last =
-    sym (ap (λ (refusal : Option GroundError). reply_of (task_by refusal (grounded_of out.0) >>= λ (grounded : Grounded). goes (final watchers command grounded))) out.4)
+    sym (ap (λ (refusal : Option GroundError). reply_of (task_by refusal (grounded_of out.0) >>= λ (grounded : Grounded). goes (final watchers files command grounded))) out.4)
     ∙ replies in
     sym (ended_status statuses.OutOfReach _ reply last)
 
@@ -305,14 +362,16 @@ emptied_none forms emptied plans_are_valid numbered files command settings endin
 searching : (command : Command) → is_of command statuses.NoPlan ≡ true → (settings : Settings) × (settings_of command ≡ Some settings)
 searching (Check domain problem plan) e = cc
 searching (Ground domain problem) e = cc
-searching (Plan domain problem settings watch plain) e = (settings, refl)
+searching (Plan domain problem settings watch plain closed) e = (settings, refl)
 searching (Gen number size settings watch plain) e = (settings, refl)
+searching (Audit domain problem certificate) e = cc
 
 grounding_out : (command : Command) → is_of command statuses.OutOfReach ≡ true → grounds_task command ≡ true
 grounding_out (Check domain problem plan) e = cc
 grounding_out (Ground domain problem) e = refl
-grounding_out (Plan domain problem settings watch plain) e = refl
+grounding_out (Plan domain problem settings watch plain closed) e = refl
 grounding_out (Gen number size settings watch plain) e = refl
+grounding_out (Audit domain problem certificate) e = refl
 
 pub no_plan : EndingsHaveTheirStatuses → UnreachedGoalsAreAnswered → AnswersAreOfTheirCommands → LiftingsAreFormed → EmptiedHasNoPlan → PlansAreValid
     → ValidPlansAreNumbered → UnreachedGoalsHaveNoPlan → NoPlanIsTrue
@@ -364,13 +423,21 @@ ending_among KBfws Emptied = refl
 ending_among search Budget = refl
 ending_among search (Words pairs) = refl
 
-final_among : (watchers : Watching) (command : Command) (grounded : Grounded) → grounds_task command ≡ true
-    → is_of command (final watchers command grounded).status ≡ true
-unfolding ground_reply searched_reply ending_reply
-final_among watchers (Check domain problem plan) grounded e = cc
-final_among watchers (Ground domain problem) grounded e = refl
-final_among watchers (Plan domain problem settings watch plain) grounded e = ending_among settings.search (ending_of grounded.task settings (all_tuples grounded.task settings)).how
-final_among watchers (Gen number size settings watch plain) grounded e = ending_among settings.search (ending_of grounded.task settings (all_tuples grounded.task settings)).how
+audit_among : (audit : Audited) → is_of_audit (audit_status audit) ≡ true
+audit_among Yes = refl
+audit_among (Foreign state) = refl
+audit_among NoStart = refl
+audit_among (Goal state) = refl
+audit_among (Open state act) = refl
+
+final_among : (watchers : Watching) (files : Contents) (command : Command) (grounded : Grounded) → grounds_task command ≡ true
+    → is_of command (final watchers files command grounded).status ≡ true
+unfolding ground_reply searched_reply ending_reply audited_reply
+final_among watchers files (Check domain problem plan) grounded e = cc
+final_among watchers files (Ground domain problem) grounded e = refl
+final_among watchers files (Plan domain problem settings watch plain closed) grounded e = ending_among settings.search (ending_of grounded.task settings (all_tuples grounded.task settings)).how
+final_among watchers files (Gen number size settings watch plain) grounded e = ending_among settings.search (ending_of grounded.task settings (all_tuples grounded.task settings)).how
+final_among watchers files (Audit domain problem certificate) grounded e = audit_among (audit_of grounded.task (found_cert (cert_in certificate files)))
 
 abbrev Among : Command → Status → Type 0
 Among command status = is_of command status ≡ true
@@ -378,26 +445,28 @@ Among command status = is_of command status ≡ true
 allows : (command : Command) → AllowsRefusals (Among command)
 allows (Check domain problem plan) = record { limit = refl; fault = refl }
 allows (Ground domain problem) = record { limit = refl; fault = refl }
-allows (Plan domain problem settings watch plain) = record { limit = refl; fault = refl }
+allows (Plan domain problem settings watch plain closed) = record { limit = refl; fault = refl }
 allows (Gen number size settings watch plain) = record { limit = refl; fault = refl }
+allows (Audit domain problem certificate) = record { limit = refl; fault = refl }
 
 allows_reach : (command : Command) → grounds_task command ≡ true → Among command statuses.OutOfReach
 allows_reach (Check domain problem plan) e = cc
 allows_reach (Ground domain problem) e = refl
-allows_reach (Plan domain problem settings watch plain) e = refl
+allows_reach (Plan domain problem settings watch plain closed) e = refl
 allows_reach (Gen number size settings watch plain) e = refl
+allows_reach (Audit domain problem certificate) e = refl
 
 grounding_among : (watchers : Watching) (command : Command) (files : Contents) → grounds_task command ≡ true
-    → Replies (Among command) (texts_of command files >>= λ (texts : Texts). after_texts watchers command texts)
+    → Replies (Among command) (inputs_of command files >>= λ (texts : Texts). after_texts watchers files command texts)
 grounding_among watchers command files does =
     let P = Among command in
-    replies_row P (texts_of command files) (after_texts watchers command) (command_ends P (allows command) command files)
+    replies_row P (inputs_of command files) (after_texts watchers files command) (command_ends P (allows command) command files)
     (λ (texts : Texts).
-    replies_row P (lifted_step texts.domain texts.problem) (after_lifting watchers command) (lifted_ends P (allows command) texts.domain texts.problem)
+    replies_row P (lifted_step texts.domain texts.problem) (after_lifting watchers files command) (lifted_ends P (allows command) texts.domain texts.problem)
     (λ (lifted : Lifting).
-    replies_row P (grounded_step lifted) (λ (grounded : Grounded). goes (final watchers command grounded))
+    replies_row P (grounded_step lifted) (λ (grounded : Grounded). goes (final watchers files command grounded))
     (grounded_known P (allows command) (allows_reach command does) lifted)
-    (λ (grounded : Grounded). final_among watchers command grounded does)))
+    (λ (grounded : Grounded). final_among watchers files command grounded does)))
 
 verdict_among : (verdict : Verdict) → is_of_check (verdict_status verdict) ≡ true
 verdict_among Valid = refl
@@ -429,10 +498,12 @@ pub of_their_commands : AnswersAreOfTheirCommands
 of_their_commands asked files (Check domain problem plan) reply is =
     of_reply (Among (Check domain problem plan)) _ reply (checking_among domain problem plan files) (replied_checking asked files domain problem plan reply is)
 of_their_commands asked files (Ground domain problem) reply is = among_grounding asked files (Ground domain problem) reply is refl
-of_their_commands asked files (Plan domain problem settings watch plain) reply is =
-    among_grounding asked files (Plan domain problem settings watch plain) reply is refl
+of_their_commands asked files (Plan domain problem settings watch plain closed) reply is =
+    among_grounding asked files (Plan domain problem settings watch plain closed) reply is refl
 of_their_commands asked files (Gen number size settings watch plain) reply is =
     among_grounding asked files (Gen number size settings watch plain) reply is refl
+of_their_commands asked files (Audit domain problem certificate) reply is =
+    among_grounding asked files (Audit domain problem certificate) reply is refl
 
 -- ---- `check`
 abbrev is_verdict : Status → Bool

@@ -21,12 +21,13 @@ use Rattle.wp_lift.specs.Lifting.{lifting_of}
 use Rattle.wp_check.specs.declared.step.Step.{Step as PlanStep}
 use Rattle.wp_check.specs.declared.step.PlanError.{PlanError}
 use Rattle.wp_check.specs.PlanFile.{plan_of}
+use Rattle.wp_cert.specs.Format.{cert_of}
 use Rattle.wp_ground.specs.declared.grounding.Grounded.{Grounded}
 use Rattle.wp_ground.specs.declared.grounding.GroundError.{GroundError}
 use Rattle.wp_ground.specs.Refusals.{grounded_of, refusal_of}
 use Rattle.wp_gen.specs.Depot.{domain_text, problem_text}
 use Rattle.wp_words.specs.declared.commands.Command.{Command}
-use Rattle.wp_words.specs.declared.commands.Command.TheVariants.{Check, Gen, Ground, Plan}
+use Rattle.wp_words.specs.declared.commands.Command.TheVariants.{Audit, Check, Gen, Ground, Plan}
 use Rattle.wp_words.specs.Words.{command_of}
 use Rattle.wp_report.specs.Inputs.{too_long_text}
 use Rattle.wp_app.specs.declared.reply.Reply.{Reply}
@@ -34,14 +35,14 @@ use Rattle.wp_app.specs.declared.reply.Status.TheVariants as statuses
 use Rattle.wp_app.specs.declared.inputs.Texts.{Texts}
 use Rattle.wp_app.specs.Requests.{Asked, file_of, kept_of}
 use Rattle.wp_app.specs.Steps.{Step, missing, ends, goes, reply_of, ◌>>=◌}
-use Rattle.wp_app.specs.Output.{answered, domain_in, domain_step, grounded_step, items_by, items_step, lifted_by, lifted_step, limit_of, part_of, plan_step, problem_in, problem_step, record_by, steps_by, task_by, within}
-use Rattle.wp_app.specs.Table.{answer_sought, made_step, texts_step}
+use Rattle.wp_app.specs.Output.{answered, audited_reply, cert_by, cert_step, domain_in, domain_step, grounded_step, items_by, items_step, lifted_by, lifted_step, limit_of, part_of, plan_step, problem_in, problem_step, record_by, steps_by, task_by, within}
+use Rattle.wp_app.specs.Table.{answer_sought, cert_in, made_step, texts_step}
 use Rattle.wp_app.specs.Causes.{HasNoFile, IsReadBefore, MissingFilesHaveNoAnswer, reads_files}
 use Rattle.wp_app.specs.Meanings.{texts_of}
-use Rattle.wp_app.proofs.CauseLaws.{Reads, behind, goes_longer, named_reads, reading, reads_check, reads_ground, reads_plan, run_row, same_name}
+use Rattle.wp_app.proofs.CauseLaws.{Reads, behind, goes_longer, named_reads, reading, reads_audit, reads_check, reads_ground, reads_plan, run_row, same_name}
 use Rattle.wp_app.proofs.ChainLemmas.{both, from_problem}
-use Rattle.wp_app.proofs.MeaningLaws.{Watching, after_lifting, after_steps, after_texts, final, judged}
-use Rattle.wp_app.proofs.ReplyLemmas.{request_for, steps_commanded}
+use Rattle.wp_app.proofs.MeaningLaws.{Watching, after_cert, after_lifting, after_steps, after_texts, final, judged}
+use Rattle.wp_app.proofs.ReplyLemmas.{steps_commanded}
 
 -- a row that misses a file does so at its first step, or behind it
 misses : {A B : Type 0} (first : Step A) (next : A → Step B) → (first >>= next) ≡ missing
@@ -87,6 +88,14 @@ plan_finds : (text : List ℕ) → FindsAll {A = List PlanStep} (plan_step text)
 unfolding plan_step
 plan_finds text = steps_find (plan_of text)
 
+cert_by_finds : (read : Result (List (List ℕ)) ℕ) → FindsAll {A = List (List ℕ)} (cert_by read)
+cert_by_finds (Ok cert) e = cc
+cert_by_finds (Err line) e = cc
+
+cert_finds : (text : List ℕ) → FindsAll {A = List (List ℕ)} (cert_step text)
+unfolding cert_step
+cert_finds text = cert_by_finds (cert_of text)
+
 names_find : (faults : List Fault) (value : Lifting) → FindsAll {A = Lifting} (lifted_by faults value)
 names_find [] value e = cc
 names_find (fault ∷ faults) value e = cc
@@ -99,21 +108,30 @@ task_finds : (refusal : Option GroundError) (made : Grounded) → FindsAll {A = 
 task_finds None made e = cc
 task_finds (Some error) made e = cc
 
-after_lifting_finds : (watchers : Watching) (command : Command) (lifted : Lifting) → FindsAll {A = Reply} (after_lifting watchers command lifted)
+after_lifting_finds : (watchers : Watching) (files : Contents) (command : Command) (lifted : Lifting) → FindsAll {A = Reply} (after_lifting watchers files command lifted)
 unfolding grounded_step
-after_lifting_finds watchers command lifted =
-    row_finds (grounded_step lifted) (λ (grounded : Grounded). goes (final watchers command grounded))
+after_lifting_finds watchers files command lifted =
+    row_finds (grounded_step lifted) (λ (grounded : Grounded). goes (final watchers files command grounded))
     (task_finds (refusal_of lifted) (grounded_of lifted)) (λ (grounded : Grounded) e. cc)
 
-after_texts_finds : (watchers : Watching) (command : Command) (texts : Texts) → FindsAll {A = Reply} (after_texts watchers command texts)
-after_texts_finds watchers command texts =
-    row_finds (lifted_step texts.domain texts.problem) (after_lifting watchers command) (lifted_finds texts.domain texts.problem)
-    (after_lifting_finds watchers command)
+after_texts_finds : (watchers : Watching) (files : Contents) (command : Command) (texts : Texts) → FindsAll {A = Reply} (after_texts watchers files command texts)
+after_texts_finds watchers files command texts =
+    row_finds (lifted_step texts.domain texts.problem) (after_lifting watchers files command) (lifted_finds texts.domain texts.problem)
+    (after_lifting_finds watchers files command)
 
 after_steps_finds : (texts : Texts) (steps : List PlanStep) → FindsAll {A = Reply} (after_steps texts steps)
 after_steps_finds texts steps =
     row_finds (lifted_step texts.domain texts.problem) (λ (one : Lifting). judged one steps) (lifted_finds texts.domain texts.problem)
     (λ (one : Lifting) e. cc)
+
+after_cert_finds : (texts : Texts) (cert : List (List ℕ)) → FindsAll {A = Reply} (after_cert texts cert)
+unfolding grounded_step
+after_cert_finds texts cert =
+    row_finds (lifted_step texts.domain texts.problem) (λ (lifted : Lifting). grounded_step lifted >>= λ (grounded : Grounded). goes (audited_reply grounded cert))
+    (lifted_finds texts.domain texts.problem)
+    (λ (lifted : Lifting).
+    row_finds (grounded_step lifted) (λ (grounded : Grounded). goes (audited_reply grounded cert)) (task_finds (refusal_of lifted) (grounded_of lifted))
+    (λ (grounded : Grounded) e. cc))
 
 made_finds : (number size : ℕ) → FindsAll {A = Texts} (made_step number size)
 unfolding made_step
@@ -166,9 +184,10 @@ texts_gone files command domain problem reads e =
 command_gone : (files : Contents) (command : Command) → texts_of command files ≡ missing → HasNoFile files command
 command_gone files (Check domain problem plan) e = texts_gone files _ domain problem (reads_check domain problem plan) e
 command_gone files (Ground domain problem) e = texts_gone files _ domain problem (reads_ground domain problem) e
-command_gone files (Plan domain problem settings watch plain) e =
-    texts_gone files _ domain problem (reads_plan domain problem settings watch plain) e
+command_gone files (Plan domain problem settings watch plain closed) e =
+    texts_gone files _ domain problem (reads_plan domain problem settings watch plain closed) e
 command_gone files (Gen number size settings watch plain) e = absurd (made_finds number size e)
+command_gone files (Audit domain problem certificate) e = texts_gone files _ domain problem (reads_audit domain problem certificate) e
 
 plan_gone : (files : Contents) (domain problem plan : List ℕ) (texts : Texts) → texts_step domain problem files ≡ goes texts
     → ((part_of parts.Plan plan files >>= plan_step) >>= after_steps texts) ≡ missing → HasNoFile files (Check domain problem plan)
@@ -181,14 +200,26 @@ plan_gone files domain problem plan texts read e =
       | inr steps ↦ absurd (after_steps_finds texts steps.0 steps.2)
     ]
 
+cert_gone : (files : Contents) (domain problem certificate : List ℕ) (texts : Texts) → texts_step domain problem files ≡ goes texts
+    → (cert_in certificate files >>= after_cert texts) ≡ missing → HasNoFile files (Audit domain problem certificate)
+cert_gone files domain problem certificate texts read e =
+    elim (misses (cert_in certificate files) (after_cert texts) e) [
+      | inl first ↦ elim (misses (part_of parts.Certificate certificate files) cert_step first) [
+        | inl gone ↦ file_gone files (Audit domain problem certificate) parts.Certificate certificate refl (texts, read) gone
+        | inr text ↦ absurd (cert_finds text.0 text.2)
+      ]
+      | inr cert ↦ absurd (after_cert_finds texts cert.0 cert.2)
+    ]
+
 behind_gone : (files : Contents) (command : Command) (watchers : Watching) (texts : Texts) → texts_of command files ≡ goes texts
     → behind watchers command files texts ≡ missing → HasNoFile files command
 behind_gone files (Check domain problem plan) watchers texts read e = plan_gone files domain problem plan texts read e
-behind_gone files (Ground domain problem) watchers texts read e = absurd (after_texts_finds watchers (Ground domain problem) texts e)
-behind_gone files (Plan domain problem settings watch plain) watchers texts read e =
-    absurd (after_texts_finds watchers (Plan domain problem settings watch plain) texts e)
+behind_gone files (Ground domain problem) watchers texts read e = absurd (after_texts_finds watchers files (Ground domain problem) texts e)
+behind_gone files (Plan domain problem settings watch plain closed) watchers texts read e =
+    absurd (after_texts_finds watchers files (Plan domain problem settings watch plain closed) texts e)
 behind_gone files (Gen number size settings watch plain) watchers texts read e =
-    absurd (after_texts_finds watchers (Gen number size settings watch plain) texts e)
+    absurd (after_texts_finds watchers files (Gen number size settings watch plain) texts e)
+behind_gone files (Audit domain problem certificate) watchers texts read e = cert_gone files domain problem certificate texts read e
 
 row_gone : (files : Contents) (command : Command) (watchers : Watching) → (texts_of command files >>= behind watchers command files) ≡ missing
     → HasNoFile files command
@@ -212,8 +243,22 @@ plan_misses files (Check domain problem plan) watchers name named before gone =
     ap (λ (step : Step Texts). step >>= behind watchers (Check domain problem plan) files) before.1
     ∙ ap (λ (step : Step (List ℕ)). (step >>= plan_step) >>= after_steps before.0) first
 plan_misses files (Ground domain problem) watchers name named before gone = cc
-plan_misses files (Plan domain problem settings watch plain) watchers name named before gone = cc
+plan_misses files (Plan domain problem settings watch plain closed) watchers name named before gone = cc
 plan_misses files (Gen number size settings watch plain) watchers name named before gone = cc
+plan_misses files (Audit domain problem certificate) watchers name named before gone = cc
+
+-- of a certificate
+cert_misses : (files : Contents) (command : Command) (watchers : Watching) (name : List ℕ) → file_of command parts.Certificate ≡ Some name
+    → IsReadBefore files command parts.Certificate → get files name ≡ None → (texts_of command files >>= behind watchers command files) ≡ missing
+cert_misses files (Check domain problem plan) watchers name named before gone = cc
+cert_misses files (Ground domain problem) watchers name named before gone = cc
+cert_misses files (Plan domain problem settings watch plain closed) watchers name named before gone = cc
+cert_misses files (Gen number size settings watch plain) watchers name named before gone = cc
+cert_misses files (Audit domain problem certificate) watchers name named before gone =
+    let same : certificate ≡ name = cc in
+    let first = gone_missing files parts.Certificate certificate (ap (get files) same ∙ gone) in
+    ap (λ (step : Step Texts). step >>= behind watchers (Audit domain problem certificate) files) before.1
+    ∙ ap (λ (step : Step (List ℕ)). (step >>= cert_step) >>= after_cert before.0) first
 
 -- the row of a command misses a file where its first does that cannot be read
 row_misses : (files : Contents) (command : Command) (watchers : Watching) → reads_files command ≡ true → (part : Part) (name : List ℕ)
@@ -237,6 +282,7 @@ row_misses files command watchers reads parts.Problem name named before gone =
     (subst (λ (one : List ℕ). (part_of parts.Domain one files >>= domain_step) ≡ goes before.1) domain before.3)
     ∙ ap (λ (step : Step (List ℕ)). step >>= λ (text : List ℕ). problem_step text >>= λ (two : Problem). both before.1 two) first)
 row_misses files command watchers reads parts.Plan name named before gone = plan_misses files command watchers name named before gone
+row_misses files command watchers reads parts.Certificate name named before gone = cert_misses files command watchers name named before gone
 
 -- ---- the law
 no_reply : (step : Step Reply) → reply_of step ≡ None → step ≡ missing

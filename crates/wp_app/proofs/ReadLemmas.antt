@@ -16,10 +16,14 @@ use Rattle.wp_check.specs.declared.step.Step.{Step as PlanStep}
 use Rattle.wp_check.specs.declared.step.PlanError.{PlanError}
 use Rattle.wp_check.specs.declared.step.PlanError.TheVariants as plans
 use Rattle.wp_check.specs.PlanFile as plan_files
+use Rattle.wp_cert.specs.declared.errors.CertError.{CertError}
+use Rattle.wp_cert.specs.declared.errors.CertError.TheVariants as certs
+use Rattle.wp_cert.specs.Format as certificates
+use Rattle.wp_cert.specs.Texts.{cert_error_text}
 use Rattle.wp_report.specs.Refusals.{lex_text, pddl_text, plan_error_text}
 use Rattle.wp_app.specs.Steps.{Step, goes}
 use Rattle.wp_app.specs.Stops.{Meets}
-use Rattle.wp_app.specs.Output.{items_by, record_by, steps_by, lifted_by, refused}
+use Rattle.wp_app.specs.Output.{cert_by, items_by, record_by, steps_by, lifted_by, refused}
 use Rattle.wp_app.specs.declared.stop.Stop.{Stop}
 use Rattle.wp_app.specs.declared.stop.Stop.TheVariants as stops
 
@@ -76,3 +80,9 @@ pub refused_steps : (error : PlanError) (plan : Result (List PlanStep) PlanError
 refused_steps (plans.Lex fault) plan h is = ap steps_by h
 refused_steps (plans.Shape at) plan h is = ap steps_by h
 refused_steps plans.Memory plan h is = absurd (is refl)
+
+-- and so of a certificate
+pub refused_cert : (error : CertError) (read : Result (List (List ℕ)) ℕ) → certificates.Fails error read → error ≢ certs.Memory
+    → cert_by read ≡ refused (cert_error_text error)
+refused_cert (certs.Line line) read h is = ap cert_by h
+refused_cert certs.Memory read h is = absurd (is refl)

@@ -7,14 +7,14 @@ use Rattle.std.proofs.lemmas.Result.{IfOk-weaker}
 use Rattle.wp_edge.specs.Faults.{Rose}
 use Rattle.wp_edge.specs.Fetch.{Contents}
 use Rattle.wp_syntax.specs.declared.error.Part.{Part}
-use Rattle.wp_syntax.specs.declared.error.Part.TheVariants.{Domain, Problem, Plan}
+use Rattle.wp_syntax.specs.declared.error.Part.TheVariants.{Domain, Problem, Plan, Certificate}
 use Rattle.wp_app.specs.declared.reply.Reply.{Reply}
 use Rattle.wp_app.specs.declared.reply.Status.{Status}
 use Rattle.wp_app.specs.declared.reply.Status.TheVariants as statuses
 use Rattle.wp_app.specs.declared.stop.Stop.{Stop}
 use Rattle.wp_app.specs.declared.stop.Stop.TheVariants.{Ends, ReadFault}
 use Rattle.wp_words.specs.declared.commands.Command.{Command}
-use Rattle.wp_words.specs.declared.commands.Command.TheVariants.{Check, Gen, Ground}
+use Rattle.wp_words.specs.declared.commands.Command.TheVariants.{Audit, Check, Gen, Ground}
 use Rattle.wp_words.specs.declared.commands.Command.TheVariants as commands
 use Rattle.wp_words.specs.Words.{command_of}
 use Rattle.wp_app.specs.Steps.{Step, missing, goes, reply_of, ◌>>=◌}
@@ -60,6 +60,7 @@ of_files_defined statuses.InvalidPlan h = refl
 of_files_defined statuses.Usage h = refl
 of_files_defined statuses.Refused h = refl
 of_files_defined statuses.Limit h = refl
+of_files_defined statuses.InvalidCert h = refl
 of_files_defined statuses.NoPlan h = refl
 of_files_defined statuses.QueueEmpty h = refl
 of_files_defined statuses.Budget h = refl
@@ -99,12 +100,19 @@ named_file : (contents : Option Contents) (command : Command) (part : Part) → 
 named_file contents (Check domain problem plan) Domain reached = refl
 named_file contents (Check domain problem plan) Problem reached = refl
 named_file contents (Check domain problem plan) Plan reached = refl
+named_file contents (Check domain problem plan) Certificate reached = absurd reached
 named_file contents (Ground domain problem) Domain reached = refl
 named_file contents (Ground domain problem) Problem reached = refl
 named_file contents (Ground domain problem) Plan reached = absurd reached
-named_file contents (commands.Plan domain problem settings watch plain) Domain reached = refl
-named_file contents (commands.Plan domain problem settings watch plain) Problem reached = refl
-named_file contents (commands.Plan domain problem settings watch plain) Plan reached = absurd reached
+named_file contents (Ground domain problem) Certificate reached = absurd reached
+named_file contents (commands.Plan domain problem settings watch plain closed) Domain reached = refl
+named_file contents (commands.Plan domain problem settings watch plain closed) Problem reached = refl
+named_file contents (commands.Plan domain problem settings watch plain closed) Plan reached = absurd reached
+named_file contents (commands.Plan domain problem settings watch plain closed) Certificate reached = absurd reached
+named_file contents (Audit domain problem certificate) Domain reached = refl
+named_file contents (Audit domain problem certificate) Problem reached = refl
+named_file contents (Audit domain problem certificate) Plan reached = absurd reached
+named_file contents (Audit domain problem certificate) Certificate reached = refl
 named_file contents (Gen number size settings watch plain) part reached = absurd reached
 
 abbrev unread_line : List ℕ → Reply

@@ -1,5 +1,5 @@
 -- What the status of an answer to `plan` says, from how the answer comes about.
-use Rattle.std.proofs.Common.{◌≡◌, ℕ, List, map, refl, sym, ap, ◌∙◌, subst, inl, inr}
+use Rattle.std.proofs.Common.{◌≡◌, ℕ, List, map, refl, sym, ap, ◌∙◌, subst, inl, inr, Bool}
 use Rattle.std.specs.Prelude.{Option, None, Some}
 use Rattle.wp_edge.specs.Fetch.{Contents}
 use Rattle.wp_lift.specs.Problem.{Lifting, Instance}
@@ -32,7 +32,7 @@ use Rattle.wp_app.proofs.ReplyLemmas.{steps_commanded}
 use Rattle.wp_app.proofs.EndLemmas.{AllowsRefusals, EndsIn, goes_past, lifted_ends, texts_ends}
 
 -- where the step ends, it is not with this status
-abbrev Otherwise : Status → Status → Type 0
+abbrev pub Otherwise : Status → Status → Type 0
 Otherwise status one = one ≡ status → ⊥
 
 -- an answer with another status than those with which the step ends is that of what follows
@@ -46,22 +46,22 @@ record Answers (asked : Asked) (files : Contents) (settings : Settings) (reply :
   lifted : Lifting
   lifts : IsLifted asked files settings lifted
   watchers : List (WatchKind × Option ℕ)
-  replies : reply_of (grounded_step lifted >>= λ (grounded : Grounded). goes (searched_reply whole settings watchers grounded)) ≡ Some reply
+  replies : reply_of (grounded_step lifted >>= λ (grounded : Grounded). goes (searched_reply (whole lifts.closed) settings watchers grounded)) ≡ Some reply
 
 answers : (asked : Asked) (files : Contents) (settings : Settings) (reply : Reply) (status : Status) → AllowsRefusals (Otherwise status)
     → IsPlanned asked files settings reply → reply.status ≡ status → Answers asked files settings reply
 unfolding answer_to_request answer_to_plan
 answers asked files settings reply status later is same =
-    let command = Plan is.domain is.problem settings is.watch is.plain in
+    let command = Plan is.domain is.problem settings is.watch is.plain is.closed in
     let watchers = kept_of command asked.watchers in
     let run = sym (ap reply_of (steps_commanded asked command files is.command)) ∙ is.answer in
-    let first = after status (texts_step is.domain is.problem files) (after_texts whole settings watchers) reply (texts_ends (Otherwise status) later is.domain is.problem files) run same in
+    let first = after status (texts_step is.domain is.problem files) (after_texts (whole is.closed) settings watchers) reply (texts_ends (Otherwise status) later is.domain is.problem files) run same in
     let second =
     after status (lifted_step first.0.domain first.0.problem)
-    (λ (lifted : Lifting). grounded_step lifted >>= λ (grounded : Grounded). goes (searched_reply whole settings watchers grounded)) reply
+    (λ (lifted : Lifting). grounded_step lifted >>= λ (grounded : Grounded). goes (searched_reply (whole is.closed) settings watchers grounded)) reply
     (lifted_ends (Otherwise status) later first.0.domain first.0.problem) first.2 same in record {
       lifted = second.0;
-      lifts = record { domain = is.domain; problem = is.problem; watch = is.watch; plain = is.plain; texts = first.0; command = is.command; read = first.1; lifts = second.1 };
+      lifts = record { domain = is.domain; problem = is.problem; watch = is.watch; plain = is.plain; closed = is.closed; texts = first.0; command = is.command; read = first.1; lifts = second.1 };
       watchers = watchers;
       replies = second.2;
     }
@@ -76,13 +76,13 @@ refused_later status later reach memory (Some (GoalOutOfReach goal atom)) made =
 refused_later status later reach memory (Some Memory) made = memory
 
 -- the answer of a search
-record Searched (asked : Asked) (files : Contents) (settings : Settings) (reply : Reply) : Type 0 where
-  lifted : Lifting
-  ending : Ending
-  is_searched : IsSearched asked files settings lifted ending
-  how_status : ending_status settings.search ending.how ≡ reply.status
+pub record Searched (asked : Asked) (files : Contents) (settings : Settings) (reply : Reply) : Type 0 where
+  pub lifted : Lifting
+  pub ending : Ending
+  pub is_searched : IsSearched asked files settings lifted ending
+  pub how_status : ending_status settings.search ending.how ≡ reply.status
 
-searched : (asked : Asked) (files : Contents) (settings : Settings) (reply : Reply) (status : Status) → AllowsRefusals (Otherwise status)
+pub searched : (asked : Asked) (files : Contents) (settings : Settings) (reply : Reply) (status : Status) → AllowsRefusals (Otherwise status)
     → (statuses.OutOfReach ≡ status → ⊥) → (statuses.Memory ≡ status → ⊥)
     → IsPlanned asked files settings reply → reply.status ≡ status → Searched asked files settings reply
 unfolding grounded_step searched_reply ending_reply
@@ -90,9 +90,9 @@ searched asked files settings reply status later reach memory is same =
     let of = answers asked files settings reply status later is same in
     let last =
     after status (task_by (refusal_of of.lifted) (grounded_of of.lifted))
-    (λ (grounded : Grounded). goes (searched_reply whole settings of.watchers grounded)) reply
+    (λ (grounded : Grounded). goes (searched_reply (whole of.lifts.closed) settings of.watchers grounded)) reply
     (refused_later status later reach memory (refusal_of of.lifted) (grounded_of of.lifted)) of.replies same in
-    let answer : searched_reply whole settings of.watchers last.0 ≡ reply = cc in record {
+    let answer : searched_reply (whole of.lifts.closed) settings of.watchers last.0 ≡ reply = cc in record {
       lifted = of.lifted;
       ending = ending_of last.0.task settings (all_tuples last.0.task settings);
       is_searched = record { lifts = of.lifts; grounded = last.0; grounds = last.1; ends = refl };
@@ -107,7 +107,7 @@ done_found KBfws Emptied e = cc
 done_found search Budget e = cc
 done_found search (Words pairs) e = cc
 
-no_plan_emptied : (search : Search) (how : How) → ending_status search how ≡ statuses.NoPlan → (search ≡ F5) × (how ≡ Emptied)
+pub no_plan_emptied : (search : Search) (how : How) → ending_status search how ≡ statuses.NoPlan → (search ≡ F5) × (how ≡ Emptied)
 no_plan_emptied search (Found plan) e = cc
 no_plan_emptied F5 Emptied e = (refl, refl)
 no_plan_emptied KBfws Emptied e = cc
@@ -125,22 +125,22 @@ no_ending search (Words pairs) e = cc
 status_of : (ended reply : Reply) → reply_of (ends ended) ≡ Some reply → ended.status ≡ reply.status
 status_of ended reply e = let same : ended ≡ reply = cc in ap (λ (one : Reply). one.status) same
 
-not_reached : (refusal : Option GroundError) (made : Grounded) (settings : Settings) (watchers : List (WatchKind × Option ℕ)) (reply : Reply) → reply.status ≡ statuses.OutOfReach
-    → reply_of (task_by refusal made >>= λ (grounded : Grounded). goes (searched_reply whole settings watchers grounded)) ≡ Some reply
+not_reached : (closed : Bool) (refusal : Option GroundError) (made : Grounded) (settings : Settings) (watchers : List (WatchKind × Option ℕ)) (reply : Reply) → reply.status ≡ statuses.OutOfReach
+    → reply_of (task_by refusal made >>= λ (grounded : Grounded). goes (searched_reply (whole closed) settings watchers grounded)) ≡ Some reply
     → (goal : ℕ) × (atom : List ℕ) × (refusal ≡ Some (GoalOutOfReach goal atom))
 unfolding searched_reply ending_reply
-not_reached None made settings watchers reply is e =
-    absurd (no_ending settings.search (ending_of made.task settings (all_tuples made.task settings)).how (status_of (searched_reply whole settings watchers made) reply e ∙ is))
-not_reached (Some TooManyActs) made settings watchers reply is e =
+not_reached closed None made settings watchers reply is e =
+    absurd (no_ending settings.search (ending_of made.task settings (all_tuples made.task settings)).how (status_of (searched_reply (whole closed) settings watchers made) reply e ∙ is))
+not_reached closed (Some TooManyActs) made settings watchers reply is e =
     let same : statuses.Limit ≡ statuses.OutOfReach = status_of (record { text = ground_error_text TooManyActs; status = statuses.Limit }) reply e ∙ is in cc
-not_reached (Some TooManyAtoms) made settings watchers reply is e =
+not_reached closed (Some TooManyAtoms) made settings watchers reply is e =
     let same : statuses.Limit ≡ statuses.OutOfReach = status_of (record { text = ground_error_text TooManyAtoms; status = statuses.Limit }) reply e ∙ is in cc
-not_reached (Some (GoalOutOfReach goal atom)) made settings watchers reply is e = (goal, atom, refl)
-not_reached (Some Memory) made settings watchers reply is e =
+not_reached closed (Some (GoalOutOfReach goal atom)) made settings watchers reply is e = (goal, atom, refl)
+not_reached closed (Some Memory) made settings watchers reply is e =
     let same : statuses.Memory ≡ statuses.OutOfReach = status_of (record { text = ground_error_text Memory; status = statuses.Memory }) reply e ∙ is in cc
 
 -- ---- the laws
-one_answer : (asked : Asked) (files : Contents) (one other : Reply) → answer_of asked files ≡ Some one
+pub one_answer : (asked : Asked) (files : Contents) (one other : Reply) → answer_of asked files ≡ Some one
     → answer_of asked files ≡ Some other → one ≡ other
 one_answer asked files one other e f = let both_are : Some one ≡ Some other = sym e ∙ f in cc
 
@@ -179,7 +179,7 @@ unfolding grounded_step
 out_of_reach_there unreached asked files settings reply is out =
     let later : AllowsRefusals (Otherwise statuses.OutOfReach) = record { limit = λ e. cc; fault = λ e. cc } in
     let of = answers asked files settings reply statuses.OutOfReach later is out in
-    let goal = not_reached (refusal_of of.lifted) (grounded_of of.lifted) settings of.watchers reply out of.replies in
+    let goal = not_reached of.lifts.closed (refusal_of of.lifted) (grounded_of of.lifted) settings of.watchers reply out of.replies in
     (of.lifted, of.lifts, unreached asked files settings of.lifted goal.0 goal.1 of.lifts goal.2)
 
 pub no_plan_answers : GoalsOutOfReachHaveNoPlan → EmptiedSearchesHaveNoPlan → AnswersOfNoPlanAreTrue

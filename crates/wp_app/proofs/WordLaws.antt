@@ -1,5 +1,5 @@
 -- The usage is told exactly where the words have no command, and `--plain`, `--workers` and `--ahead` play no part in an answer.
-use Rattle.std.proofs.Common.{◌≡◌, ℕ, Bool, true, false, List, refl, sym, ap, ◌∙◌, subst}
+use Rattle.std.proofs.Common.{◌≡◌, ℕ, Bool, true, List, refl, sym, ap, ◌∙◌, subst}
 use Rattle.std.specs.Prelude.{Option, None, Some}
 use Rattle.wp_edge.specs.Fetch.{Contents}
 use Rattle.wp_lift.specs.Problem.{Lifting}
@@ -13,7 +13,7 @@ use Rattle.wp_plain.specs.Run.{Moment, WorkersPlayNoPart, ending_from}
 use Rattle.wp_watch.specs.declared.watch.WatchKind.{WatchKind}
 use Rattle.wp_watch.specs.Places.{texts_after}
 use Rattle.wp_words.specs.declared.commands.Command.{Command}
-use Rattle.wp_words.specs.declared.commands.Command.TheVariants.{Check, Gen, Ground, Plan}
+use Rattle.wp_words.specs.declared.commands.Command.TheVariants.{Audit, Check, Gen, Ground, Plan}
 use Rattle.wp_words.specs.Words.{command_of}
 use Rattle.wp_report.specs.Endings.{ending_text}
 use Rattle.wp_report.specs.Inputs.{usage_text}
@@ -23,11 +23,11 @@ use Rattle.wp_app.specs.declared.reply.Status.{Status}
 use Rattle.wp_app.specs.declared.reply.Status.TheVariants as statuses
 use Rattle.wp_app.specs.declared.shown.Shown.{Shown}
 use Rattle.wp_app.specs.Requests.{Asked, kept_of}
-use Rattle.wp_app.specs.Steps.{Step, goes, reply_of, ◌>>=◌}
-use Rattle.wp_app.specs.Output.{ending_reply, grounded_step, lifted_step, named, searched_reply, whole, with_texts}
+use Rattle.wp_app.specs.Steps.{goes, reply_of, ◌>>=◌}
+use Rattle.wp_app.specs.Output.{certified, closed_text, ending_reply, grounded_step, lifted_step, named, searched_reply, whole, with_texts}
 use Rattle.wp_app.specs.Table.{answer_of, answer_sought, answer_to_gen, answer_to_plan, answer_to_request, made_step, texts_step}
 use Rattle.wp_app.specs.Causes.{PlainPlaysNoPart, UsageIsOfNoCommand, WorkersChangeNoAnswer, with_plain, with_workers}
-use Rattle.wp_app.specs.Meanings.{IsAnswered, is_of, is_of_search}
+use Rattle.wp_app.specs.Meanings.{is_of, is_of_search}
 use Rattle.wp_app.proofs.CauseLaws.{stopped}
 use Rattle.wp_app.proofs.MeaningLaws.{of_their_commands}
 use Rattle.wp_app.proofs.PlanLemmas.{after_texts}
@@ -41,8 +41,9 @@ search_has_no_usage KBfws e = cc
 has_no_usage : (command : Command) → is_of command statuses.Usage ≡ true → ⊥
 has_no_usage (Check domain problem plan) e = cc
 has_no_usage (Ground domain problem) e = cc
-has_no_usage (Plan domain problem settings watch plain) e = search_has_no_usage settings.search e
+has_no_usage (Plan domain problem settings watch plain closed) e = search_has_no_usage settings.search e
 has_no_usage (Gen number size settings watch plain) e = search_has_no_usage settings.search e
+has_no_usage (Audit domain problem certificate) e = cc
 
 only_unnamed : (asked : Asked) (files : Contents) (reply : Reply) → answer_of asked files ≡ Some reply → reply.status ≡ statuses.Usage
     → (found : Option Command) → command_of asked.words ≡ found → found ≡ None
@@ -70,8 +71,9 @@ run_plain : (command : Command) (scans : Bool) (watchers : List (WatchKind × Op
 unfolding answer_to_request
 run_plain (Check domain problem plan) scans watchers files = refl
 run_plain (Ground domain problem) scans watchers files = refl
-run_plain (Plan domain problem settings watch plain) scans watchers files = refl
+run_plain (Plan domain problem settings watch plain closed) scans watchers files = refl
 run_plain (Gen number size settings watch plain) scans watchers files = refl
+run_plain (Audit domain problem certificate) scans watchers files = refl
 
 pub no_part : PlainPlaysNoPart
 no_part asked other files command scans named also same =
@@ -91,7 +93,9 @@ searched_alike : WorkersPlayNoPart → (shown : Shown) (settings : Settings) (wo
     → searched_reply shown (crewed workers ahead settings) watchers grounded ≡ searched_reply shown settings watchers grounded
 unfolding searched_reply ending_reply ending_text
 searched_alike alike shown settings workers ahead watchers grounded =
-    ap (λ (end : How × Moment). with_texts (ending_reply shown settings grounded (ending_from end)) (texts_after watchers end.1.events))
+    ap (λ (end : How × Moment).
+    certified shown.closed (closed_text grounded.task (ending_from end).counts.kept)
+    (with_texts (ending_reply shown settings grounded (ending_from end)) (texts_after watchers end.1.events)))
     (alike grounded.task settings (all_tuples grounded.task settings) workers ahead)
 
 texts_alike : WorkersPlayNoPart → (shown : Shown) (settings : Settings) (workers ahead : ℕ) (watchers : Watching) (texts : Texts)
@@ -106,12 +110,13 @@ run_workers : WorkersPlayNoPart → (command : Command) (workers ahead : ℕ) (w
 unfolding answer_to_request answer_to_plan answer_to_gen
 run_workers alike (Check domain problem plan) workers ahead watchers files = refl
 run_workers alike (Ground domain problem) workers ahead watchers files = refl
-run_workers alike (Plan domain problem settings watch plain) workers ahead watchers files =
-    let kept = kept_of (Plan domain problem settings watch plain) watchers in
-    λ j. texts_step domain problem files >>= λ (texts : Texts). texts_alike alike whole settings workers ahead kept texts j
+run_workers alike (Plan domain problem settings watch plain closed) workers ahead watchers files =
+    let kept = kept_of (Plan domain problem settings watch plain closed) watchers in
+    λ j. texts_step domain problem files >>= λ (texts : Texts). texts_alike alike (whole closed) settings workers ahead kept texts j
 run_workers alike (Gen number size settings watch plain) workers ahead watchers files =
     let kept = kept_of (Gen number size settings watch plain) watchers in
     λ j. made_step number size >>= λ (texts : Texts). texts_alike alike (named number size) settings workers ahead kept texts j
+run_workers alike (Audit domain problem certificate) workers ahead watchers files = refl
 
 pub any_workers : WorkersPlayNoPart → WorkersChangeNoAnswer
 any_workers alike asked other files command workers ahead named also same =

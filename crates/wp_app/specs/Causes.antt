@@ -1,6 +1,6 @@
 -- When the usage is told, why files are refused, why a limit is passed, when there is no answer, and when a task is printed: the causes,
 -- whatever the files.
-use Rattle.std.specs.Prelude.{◌≡◌, ◌≢◌, ◌↔◌, ◌⊎◌, ◌<◌, ⊤, ℕ, Bool, true, false, Option, None, Some, Result, Ok, Err, List, [], length}
+use Rattle.std.specs.Prelude.{◌≡◌, ◌≢◌, ◌↔◌, ◌⊎◌, ◌<◌, ⊤, ℕ, Bool, true, false, None, Some, Err, List, [], length}
 use Rattle.std.specs.FinMap.{get}
 use Rattle.wp_edge.specs.Fetch.{Contents}
 use Rattle.wp_lex.specs.Trees.{trees_of}
@@ -16,19 +16,20 @@ use Rattle.wp_lift.specs.Lifting.{lifting_of}
 use Rattle.wp_check.specs.declared.step.Step.{Step as PlanStep}
 use Rattle.wp_check.specs.declared.step.PlanError.{PlanError}
 use Rattle.wp_check.specs.PlanFile.{plan_of}
+use Rattle.wp_cert.specs.Format.{cert_of}
 use Rattle.wp_ground.specs.declared.grounding.GroundError.TheVariants.{TooManyActs, TooManyAtoms}
 use Rattle.wp_ground.specs.Refusals.{refusal_of}
 use Rattle.wp_app.specs.declared.reply.Reply.{Reply}
 use Rattle.wp_app.specs.declared.reply.Status.TheVariants as statuses
 use Rattle.wp_app.specs.declared.inputs.Texts.{Texts}
 use Rattle.wp_words.specs.declared.commands.Command.{Command}
-use Rattle.wp_words.specs.declared.commands.Command.TheVariants.{Check, Gen, Ground, Plan}
+use Rattle.wp_words.specs.declared.commands.Command.TheVariants.{Audit, Check, Gen, Ground, Plan}
 use Rattle.wp_words.specs.Words.{command_of}
 use Rattle.wp_app.specs.Requests.{Asked, file_of}
 use Rattle.wp_app.specs.Steps.{goes, ◌>>=◌}
 use Rattle.wp_app.specs.Output.{domain_step, limit_of, part_of}
 use Rattle.wp_app.specs.Table.{answer_of, steps_in}
-use Rattle.wp_app.specs.Meanings.{AreLifted, IsAnswered, grounds_task, texts_of}
+use Rattle.wp_app.specs.Meanings.{AreLifted, IsAnswered, grounds_task, inputs_of, texts_of}
 
 -- the usage is told exactly where the words have no command
 abbrev pub UsageIsOfNoCommand : Type 0
@@ -40,8 +41,9 @@ UsageIsOfNoCommand =
 abbrev pub with_plain : Bool → Command → Command
 with_plain scans (Check domain problem plan) = Check domain problem plan
 with_plain scans (Ground domain problem) = Ground domain problem
-with_plain scans (Plan domain problem settings watch plain) = Plan domain problem settings watch scans
+with_plain scans (Plan domain problem settings watch plain closed) = Plan domain problem settings watch scans closed
 with_plain scans (Gen number size settings watch plain) = Gen number size settings watch scans
+with_plain scans (Audit domain problem certificate) = Audit domain problem certificate
 
 -- `--plain` plays no part in an answer
 abbrev pub PlainPlaysNoPart : Type 0
@@ -54,10 +56,11 @@ PlainPlaysNoPart =
 abbrev pub with_workers : ℕ → ℕ → Command → Command
 with_workers workers ahead (Check domain problem plan) = Check domain problem plan
 with_workers workers ahead (Ground domain problem) = Ground domain problem
-with_workers workers ahead (Plan domain problem settings watch plain) =
-    Plan domain problem (record settings { workers = workers; ahead = ahead }) watch plain
+with_workers workers ahead (Plan domain problem settings watch plain closed) =
+    Plan domain problem (record settings { workers = workers; ahead = ahead }) watch plain closed
 with_workers workers ahead (Gen number size settings watch plain) =
     Gen number size (record settings { workers = workers; ahead = ahead }) watch plain
+with_workers workers ahead (Audit domain problem certificate) = Audit domain problem certificate
 
 -- `--workers` and `--ahead` play no part in an answer
 abbrev pub WorkersChangeNoAnswer : Type 0
@@ -76,6 +79,7 @@ abbrev pub IsFaulty : Part → List ℕ → Type 0
 IsFaulty parts.Domain text = (fault_of text ≢ None) ⊎ ((domain_of (trees_of (items_of text))).faults ≢ [])
 IsFaulty parts.Problem text = (fault_of text ≢ None) ⊎ ((problem_of (trees_of (items_of text))).faults ≢ [])
 IsFaulty parts.Plan text = (error : PlanError) × (plan_of text ≡ Err error)
+IsFaulty parts.Certificate text = (line : ℕ) × (cert_of text ≡ Err line)
 
 -- all that is read before the file of a part is there, within its limit and without a fault
 abbrev pub IsReadBefore : Contents → Command → Part → Type 0
@@ -83,6 +87,7 @@ IsReadBefore files command parts.Domain = ⊤
 IsReadBefore files command parts.Problem =
     (name : List ℕ) × (domain : Domain) × (file_of command parts.Domain ≡ Some name) × ((part_of parts.Domain name files >>= domain_step) ≡ goes domain)
 IsReadBefore files command parts.Plan = (texts : Texts) × (texts_of command files ≡ goes texts)
+IsReadBefore files command parts.Certificate = (texts : Texts) × (texts_of command files ≡ goes texts)
 
 -- the first file that cannot be read has a fault
 pub record HasFaultyFile (files : Contents) (command : Command) : Type 0 where
@@ -115,7 +120,7 @@ pub record HasNoFile (files : Contents) (command : Command) : Type 0 where
 -- all files are read, and a name of theirs is at fault: it is not known, or stands where it may not
 pub record HasFaultyNames (files : Contents) (command : Command) : Type 0 where
   pub texts : Texts
-  pub read : texts_of command files ≡ goes texts
+  pub read : inputs_of command files ≡ goes texts
   pub plan : (name : List ℕ) → file_of command parts.Plan ≡ Some name → (steps : List PlanStep) × (steps_in name files ≡ goes steps)
   pub fault : (lifting_of texts.domain texts.problem).faults ≢ []
 

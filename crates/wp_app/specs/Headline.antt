@@ -11,7 +11,7 @@ use Rattle.wp_app.specs.declared.reply.Status.{Status}
 use Rattle.wp_app.specs.declared.reply.Status.TheVariants as statuses
 use Rattle.wp_app.specs.declared.inputs.Texts.{Texts}
 use Rattle.wp_words.specs.declared.commands.Command.{Command}
-use Rattle.wp_words.specs.declared.commands.Command.TheVariants.{Check, Gen, Ground, Plan}
+use Rattle.wp_words.specs.declared.commands.Command.TheVariants.{Audit, Check, Gen, Ground, Plan}
 use Rattle.wp_words.specs.Words.{command_of}
 use Rattle.wp_app.specs.Requests.{Asked, Request, request_of, file_of}
 use Rattle.wp_app.specs.Steps.{goes, ◌>>=◌}
@@ -80,6 +80,7 @@ IsInputReached contents domain parts.Domain = Unit {0}
 IsInputReached contents domain parts.Problem =
     (files : Contents) → contents ≡ Some files → (read : Domain) × ((part_of parts.Domain domain files >>= domain_step) ≡ goes read)
 IsInputReached contents domain parts.Plan = ⊥
+IsInputReached contents domain parts.Certificate = ⊥
 
 abbrev pub IsReached : Option Contents → Command → Part → Type 0
 IsReached contents (Check domain problem plan) parts.Domain = Unit {0}
@@ -87,8 +88,12 @@ IsReached contents (Check domain problem plan) parts.Problem =
     (files : Contents) → contents ≡ Some files → (read : Domain) × ((part_of parts.Domain domain files >>= domain_step) ≡ goes read)
 IsReached contents (Check domain problem plan) parts.Plan =
     (files : Contents) → contents ≡ Some files → (texts : Texts) × (texts_step domain problem files ≡ goes texts)
+IsReached contents (Check domain problem plan) parts.Certificate = ⊥
+IsReached contents (Audit domain problem certificate) parts.Certificate =
+    (files : Contents) → contents ≡ Some files → (texts : Texts) × (texts_step domain problem files ≡ goes texts)
+IsReached contents (Audit domain problem certificate) part = IsInputReached contents domain part
 IsReached contents (Ground domain problem) part = IsInputReached contents domain part
-IsReached contents (Plan domain problem settings watch plain) part = IsInputReached contents domain part
+IsReached contents (Plan domain problem settings watch plain closed) part = IsInputReached contents domain part
 IsReached contents (Gen number size settings watch plain) part = ⊥
 
 -- the words name the part's file, and the run comes to it

@@ -1,6 +1,6 @@
 -- What the answers to `plan` mean, whatever the files: the text of a plan that is found is read as a valid plan, there is no valid
 -- plan where the answer says so, k-BFWS stays within its bound, and limits that are large enough end no search.
-use Rattle.std.specs.Prelude.{◌≡◌, ◌≢◌, ◌++◌, ◌+◌, ◌*◌, ◌≤◌, ◌⊎◌, ℕ, Bool, false, Some, Ok, List, length, map, Contains}
+use Rattle.std.specs.Prelude.{◌≡◌, ◌≢◌, ◌++◌, ◌+◌, ◌*◌, ◌≤◌, ◌⊎◌, ℕ, Bool, true, false, Some, Ok, List, length, map, Contains}
 use Rattle.wp_edge.specs.Fetch.{Contents}
 use Rattle.wp_lift.specs.Problem.{Lifting, Instance}
 use Rattle.wp_lift.specs.Worlds.{is_valid}
@@ -15,10 +15,14 @@ use Rattle.wp_ground.specs.declared.grounding.GroundError.TheVariants.{GoalOutOf
 use Rattle.wp_ground.specs.Refusals.{refusal_of}
 use Rattle.wp_ground.specs.Tasks.{task_of, instance_at}
 use Rattle.wp_plain.specs.declared.settings.Search.TheVariants.{KBfws, F5}
+use Rattle.wp_cert.specs.declared.answer.Audit.TheVariants.{Yes}
+use Rattle.wp_cert.specs.Audits.{audit_of}
+use Rattle.wp_cert.specs.Format.{cert_of}
 use Rattle.wp_plain.specs.declared.settings.Settings.{Settings}
 use Rattle.wp_plain.specs.declared.ending.Ending.{Ending}
 use Rattle.wp_plain.specs.declared.ending.How.TheVariants.{Found, Emptied}
 use Rattle.wp_plain.specs.Pairs.{all_tuples, tuple_count}
+use Rattle.wp_plain.specs.Ranges.{AreInRange}
 use Rattle.wp_plain.specs.Run.{ending_of}
 use Rattle.wp_app.specs.declared.reply.Reply.{Reply}
 use Rattle.wp_app.specs.declared.reply.Status.TheVariants as statuses
@@ -37,8 +41,9 @@ pub record IsLifted (asked : Asked) (files : Contents) (settings : Settings) (li
   pub problem : List ℕ
   pub watch : List WatchKind
   pub plain : Bool
+  pub closed : Bool
   pub texts : Texts
-  pub command : command_of asked.words ≡ Some (Plan domain problem settings watch plain)
+  pub command : command_of asked.words ≡ Some (Plan domain problem settings watch plain closed)
   pub read : texts_step domain problem files ≡ goes texts
   pub lifts : lifted_step texts.domain texts.problem ≡ goes lifted
 
@@ -111,7 +116,8 @@ pub record IsPlanned (asked : Asked) (files : Contents) (settings : Settings) (r
   pub problem : List ℕ
   pub watch : List WatchKind
   pub plain : Bool
-  pub command : command_of asked.words ≡ Some (Plan domain problem settings watch plain)
+  pub closed : Bool
+  pub command : command_of asked.words ≡ Some (Plan domain problem settings watch plain closed)
   pub answer : answer_of asked files ≡ Some reply
 
 -- where the answer is done, its whole text is read as the steps of a valid plan of its files
@@ -131,3 +137,12 @@ AnswersOfNoPlanAreTrue =
     (asked : Asked) (files : Contents) (settings : Settings) (reply : Reply)
     → IsPlanned asked files settings reply → (reply.status ≡ statuses.NoPlan) ⊎ (reply.status ≡ statuses.OutOfReach)
     → HasNoPlan asked files settings
+
+-- where `plan --closed` answers that there is no plan, its whole text is read as a certificate, and an audit of it in the task of its files
+-- says yes
+abbrev pub ClosedAnswersAreCertified : Type 0
+ClosedAnswersAreCertified =
+    (asked : Asked) (files : Contents) (settings : Settings) (reply : Reply) (is : IsPlanned asked files settings reply) → AreInRange settings
+    → is.closed ≡ true → reply.status ≡ statuses.NoPlan
+    → (lifted : Lifting) × IsLifted asked files settings lifted
+    × (cert : List (List ℕ)) × (cert_of reply.text ≡ Ok cert) × (audit_of (task_of lifted) cert ≡ Yes)

@@ -11,6 +11,9 @@ use Rattle.wp_check.specs.Verdicts.{verdict_of}
 use Rattle.wp_ground.specs.declared.grounding.Grounded.{Grounded}
 use Rattle.wp_ground.specs.declared.grounding.GroundError.TheVariants.{GoalOutOfReach}
 use Rattle.wp_ground.specs.Refusals.{refusal_of}
+use Rattle.wp_ground.specs.Tasks.{task_of}
+use Rattle.wp_cert.specs.declared.answer.Audit.TheVariants.{Yes}
+use Rattle.wp_cert.specs.Audits.{audit_of}
 use Rattle.wp_plain.specs.declared.settings.Search.{Search}
 use Rattle.wp_plain.specs.declared.settings.Search.TheVariants.{KBfws, F5}
 use Rattle.wp_plain.specs.declared.settings.Settings.{Settings}
@@ -22,12 +25,12 @@ use Rattle.wp_app.specs.declared.reply.Status.{Status}
 use Rattle.wp_app.specs.declared.reply.Status.TheVariants as statuses
 use Rattle.wp_app.specs.declared.inputs.Texts.{Texts}
 use Rattle.wp_words.specs.declared.commands.Command.{Command}
-use Rattle.wp_words.specs.declared.commands.Command.TheVariants.{Check, Gen, Ground, Plan}
+use Rattle.wp_words.specs.declared.commands.Command.TheVariants.{Audit, Check, Gen, Ground, Plan}
 use Rattle.wp_words.specs.Words.{command_of}
 use Rattle.wp_app.specs.Requests.{Asked}
-use Rattle.wp_app.specs.Steps.{Step, goes}
+use Rattle.wp_app.specs.Steps.{Step, goes, ◌>>=◌}
 use Rattle.wp_app.specs.Output.{ending_status, grounded_step, lifted_step}
-use Rattle.wp_app.specs.Table.{answer_of, made_step, steps_in, texts_step}
+use Rattle.wp_app.specs.Table.{answer_of, cert_in, made_step, steps_in, texts_step}
 
 -- the words are those of the command, and this is their answer
 pub record IsAnswered (asked : Asked) (files : Contents) (command : Command) (reply : Reply) : Type 0 where
@@ -61,11 +64,20 @@ is_of_ground statuses.Limit = true
 is_of_ground statuses.OutOfReach = true
 is_of_ground status = false
 
+abbrev pub is_of_audit : Status → Bool
+is_of_audit statuses.Done = true
+is_of_audit statuses.InvalidCert = true
+is_of_audit statuses.Refused = true
+is_of_audit statuses.Limit = true
+is_of_audit statuses.OutOfReach = true
+is_of_audit status = false
+
 abbrev pub is_of : Command → Status → Bool
 is_of (Check domain problem plan) status = is_of_check status
 is_of (Ground domain problem) status = is_of_ground status
-is_of (Plan domain problem settings watch plain) status = is_of_search settings.search status
+is_of (Plan domain problem settings watch plain closed) status = is_of_search settings.search status
 is_of (Gen number size settings watch plain) status = is_of_search settings.search status
+is_of (Audit domain problem certificate) status = is_of_audit status
 
 -- a command has no other status than these
 abbrev pub AnswersAreOfTheirCommands : Type 0
@@ -78,13 +90,25 @@ AnswersAreOfTheirCommands =
 abbrev pub texts_of : Command → Contents → Step Texts
 texts_of (Check domain problem plan) files = texts_step domain problem files
 texts_of (Ground domain problem) files = texts_step domain problem files
-texts_of (Plan domain problem settings watch plain) files = texts_step domain problem files
+texts_of (Plan domain problem settings watch plain closed) files = texts_step domain problem files
 texts_of (Gen number size settings watch plain) files = made_step number size
+texts_of (Audit domain problem certificate) files = texts_step domain problem files
+
+-- the same where a certificate that the command names is read, too
+abbrev pub inputs_of : Command → Contents → Step Texts
+inputs_of (Audit domain problem certificate) files = do
+  texts ← texts_step domain problem files
+  cert ← cert_in certificate files
+  goes texts
+inputs_of (Check domain problem plan) files = texts_step domain problem files
+inputs_of (Ground domain problem) files = texts_step domain problem files
+inputs_of (Plan domain problem settings watch plain closed) files = texts_step domain problem files
+inputs_of (Gen number size settings watch plain) files = made_step number size
 
 -- they are lifted without a fault
 pub record AreLifted (files : Contents) (command : Command) (lifted : Lifting) : Type 0 where
   pub texts : Texts
-  pub read : texts_of command files ≡ goes texts
+  pub read : inputs_of command files ≡ goes texts
   pub lifts : lifted_step texts.domain texts.problem ≡ goes lifted
 
 -- ---- `check`
@@ -122,12 +146,47 @@ InvalidChecksHaveInvalidPlans =
     → IsAnswered asked files (Check domain problem plan) reply
     → (reply.status ≡ statuses.InvalidPlan) ↔ HasInvalidPlan files domain problem plan
 
+-- ---- `audit`
+-- all three files are read, and no cause is against the task
+pub record IsAudited (files : Contents) (domain problem certificate : List ℕ) (lifted : Lifting) (cert : List (List ℕ)) : Type 0 where
+  pub lifts : AreLifted files (Audit domain problem certificate) lifted
+  pub cert_read : cert_in certificate files ≡ goes cert
+  pub admitted : refusal_of lifted ≡ None
+
+-- and the states of the certificate are closed in it
+pub record HasClosedStates (files : Contents) (domain problem certificate : List ℕ) : Type 0 where
+  pub lifted : Lifting
+  pub cert : List (List ℕ)
+  pub audited : IsAudited files domain problem certificate lifted cert
+  pub closed : audit_of (task_of lifted) cert ≡ Yes
+
+-- or they are not
+pub record HasOpenStates (files : Contents) (domain problem certificate : List ℕ) : Type 0 where
+  pub lifted : Lifting
+  pub cert : List (List ℕ)
+  pub audited : IsAudited files domain problem certificate lifted cert
+  pub open_somewhere : audit_of (task_of lifted) cert ≢ Yes
+
+-- `audit` is done exactly where the states are closed, and says that the certificate is invalid exactly where they are not
+abbrev pub DoneAuditsHaveClosedStates : Type 0
+DoneAuditsHaveClosedStates =
+    (asked : Asked) (files : Contents) (domain problem certificate : List ℕ) (reply : Reply)
+    → IsAnswered asked files (Audit domain problem certificate) reply
+    → (reply.status ≡ statuses.Done) ↔ HasClosedStates files domain problem certificate
+
+abbrev pub InvalidAuditsHaveOpenStates : Type 0
+InvalidAuditsHaveOpenStates =
+    (asked : Asked) (files : Contents) (domain problem certificate : List ℕ) (reply : Reply)
+    → IsAnswered asked files (Audit domain problem certificate) reply
+    → (reply.status ≡ statuses.InvalidCert) ↔ HasOpenStates files domain problem certificate
+
 -- ---- searches
 abbrev pub settings_of : Command → Option Settings
 settings_of (Check domain problem plan) = None
 settings_of (Ground domain problem) = None
-settings_of (Plan domain problem settings watch plain) = Some settings
+settings_of (Plan domain problem settings watch plain closed) = Some settings
 settings_of (Gen number size settings watch plain) = Some settings
+settings_of (Audit domain problem certificate) = None
 
 -- the command searches with these settings, no cause is against its task, and the search ends so
 pub record EndsSo (files : Contents) (command : Command) (settings : Settings) (ending : Ending) : Type 0 where
@@ -165,7 +224,7 @@ abbrev pub IsOutOfReach : Contents → Command → Type 0
 IsOutOfReach files command =
     (lifted : Lifting) × AreLifted files command lifted × (goal : ℕ) × (atom : List ℕ) × (refusal_of lifted ≡ Some (GoalOutOfReach goal atom))
 
--- of `ground`, `plan` and `gen`, that a goal is out of reach is answered exactly where it is
+-- of `ground`, `plan`, `gen` and `audit`, that a goal is out of reach is answered exactly where it is
 abbrev pub grounds_task : Command → Bool
 grounds_task (Check domain problem plan) = false
 grounds_task command = true
@@ -174,6 +233,13 @@ abbrev pub UnreachedGoalsAreAnswered : Type 0
 UnreachedGoalsAreAnswered =
     (asked : Asked) (files : Contents) (command : Command) (reply : Reply) → IsAnswered asked files command reply
     → grounds_task command ≡ true → (reply.status ≡ statuses.OutOfReach) ↔ IsOutOfReach files command
+
+-- where `audit` is done no plan is valid, whoever made the certificate
+abbrev pub DoneAuditsHaveNoPlan : Type 0
+DoneAuditsHaveNoPlan =
+    (asked : Asked) (files : Contents) (domain problem certificate : List ℕ) (reply : Reply)
+    → IsAnswered asked files (Audit domain problem certificate) reply → reply.status ≡ statuses.Done
+    → HaveNoPlan files (Audit domain problem certificate)
 
 -- where any command answers that there is no plan, or that a goal is out of reach, no plan is valid
 abbrev pub NoPlanIsTrue : Type 0

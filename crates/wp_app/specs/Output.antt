@@ -1,6 +1,6 @@
 -- The steps in which an answer is sought: what each of them goes on with, and the answer where it does not. Which steps each command has,
 -- and in which order, stands in Table.
-use Rattle.std.specs.Prelude.{ℕ, nat_lt, true, false, Option, None, Some, Result, Ok, Err, List, [], ◌∷◌, ◌++◌, length}
+use Rattle.std.specs.Prelude.{◌&&◌, ℕ, nat_lt, Bool, true, false, Option, None, Some, Result, Ok, Err, List, [], ◌∷◌, ◌++◌, length, if◌then◌else◌}
 use Rattle.std.specs.List.{flat_map}
 use Rattle.std.specs.FinMap.{get}
 use Rattle.wp_edge.specs.Fetch.{Contents}
@@ -50,6 +50,14 @@ use Rattle.wp_report.specs.Refusals.{lex_text, pddl_text, plan_error_text}
 use Rattle.wp_report.specs.Verdicts.{verdict_text}
 use Rattle.wp_report.specs.Tasks.{ground_text, ground_error_text}
 use Rattle.wp_report.specs.Endings.{ending_text}
+use Rattle.wp_task.specs.Task.{PlanningTask}
+use Rattle.wp_cert.specs.declared.answer.Audit.{Audit as Audited}
+use Rattle.wp_cert.specs.declared.answer.Audit.TheVariants as audits
+use Rattle.wp_cert.specs.declared.errors.CertError.TheVariants as certs
+use Rattle.wp_cert.specs.Format.{cert_of, text_of}
+use Rattle.wp_cert.specs.Audits.{audit_of}
+use Rattle.wp_cert.specs.Closing.{closed_cert}
+use Rattle.wp_cert.specs.Texts.{audit_text, cert_error_text}
 use Rattle.wp_app.specs.declared.shown.Shown.{Shown}
 
 -- the most bytes that the file of a part may have
@@ -57,6 +65,7 @@ abbrev pub limit_of : Part → ℕ
 limit_of parts.Domain = 4194304
 limit_of parts.Problem = 16777216
 limit_of parts.Plan = 16777216
+limit_of parts.Certificate = 268435456
 
 abbrev pub answered : {A : Type 0} → Status → List ℕ → Step A
 answered status text = ends (record { text = text; status = status })
@@ -115,6 +124,13 @@ steps_by (Err error) = refused (plan_error_text error)
 unfoldable pub plan_step : List ℕ → Step (List PlanStep)
 plan_step text = steps_by (plan_of text)
 
+abbrev pub cert_by : Result (List (List ℕ)) ℕ → Step (List (List ℕ))
+cert_by (Ok cert) = goes cert
+cert_by (Err line) = refused (cert_error_text (certs.Line line))
+
+unfoldable pub cert_step : List ℕ → Step (List (List ℕ))
+cert_step text = cert_by (cert_of text)
+
 -- the first fault of names is in the text of its part
 abbrev pub lifted_by : List Fault → Lifting → Step Lifting
 lifted_by [] value = goes value
@@ -156,12 +172,13 @@ ending_status KBfws hows.Emptied = statuses.QueueEmpty
 ending_status search hows.Budget = statuses.Budget
 ending_status search (hows.Words pairs) = statuses.Words
 
--- a plan is shown with its steps and nothing before them; a task that is made by its line, without the steps of its plan
-abbrev pub whole : Shown
-whole = record { front = []; with_plan = true }
+-- a plan is shown with its steps and nothing before them, and that there is none perhaps with a certificate; a task that is made by its
+-- line, without the steps of its plan
+abbrev pub whole : Bool → Shown
+whole closed = record { front = []; with_plan = true; closed = closed }
 
 abbrev pub named : ℕ → ℕ → Shown
-named number size = record { front = gen_text number size; with_plan = false }
+named number size = record { front = gen_text number size; with_plan = false; closed = false }
 
 unfoldable pub ending_reply : Shown → Settings → Grounded → Ending → Reply
 ending_reply shown settings grounded ending = record {
@@ -173,8 +190,41 @@ ending_reply shown settings grounded ending = record {
 abbrev pub with_texts : Reply → List (List ℕ) → Reply
 with_texts reply texts = record reply { text = reply.text ++ flat_map (λ text. text) texts }
 
--- the ending of the search of the task, and behind it what the watchers say of its events, in their order
+-- the text of a certificate, where there is one
+abbrev pub cert_text : Option (List (List ℕ)) → List ℕ
+cert_text None = []
+cert_text (Some cert) = text_of cert
+
+-- a certificate lists at most so many states
+abbrev pub most_listed : ℕ → ℕ
+most_listed kept = if nat_lt 100000000 kept then 100000000 else kept
+
+-- the certificate of the reachable states of a task, of which a search has kept so many
+unfoldable pub closed_text : PlanningTask → ℕ → List ℕ
+closed_text task kept = cert_text (closed_cert task (most_listed kept))
+
+abbrev pub is_no_plan : Status → Bool
+is_no_plan statuses.NoPlan = true
+is_no_plan status = false
+
+-- a reply that there is no plan, with more text behind its own where that is asked for; every other stays
+abbrev pub certified : Bool → List ℕ → Reply → Reply
+certified closed text reply = record reply { text = reply.text ++ (if is_no_plan reply.status && closed then text else []) }
+
+-- the ending of the search of the task, behind it what the watchers say of its events, in their order, and behind that a certificate
 unfoldable pub searched_reply : Shown → Settings → List (WatchKind × Option ℕ) → Grounded → Reply
 searched_reply shown settings watchers grounded =
-    with_texts (ending_reply shown settings grounded (ending_of grounded.task settings (all_tuples grounded.task settings)))
-    (texts_after watchers (run grounded.task settings (all_tuples grounded.task settings)).1.events)
+    certified shown.closed (closed_text grounded.task (ending_of grounded.task settings (all_tuples grounded.task settings)).counts.kept)
+    (with_texts (ending_reply shown settings grounded (ending_of grounded.task settings (all_tuples grounded.task settings)))
+    (texts_after watchers (run grounded.task settings (all_tuples grounded.task settings)).1.events))
+
+abbrev pub audit_status : Audited → Status
+audit_status audits.Yes = statuses.Done
+audit_status (audits.Foreign state) = statuses.InvalidCert
+audit_status audits.NoStart = statuses.InvalidCert
+audit_status (audits.Goal state) = statuses.InvalidCert
+audit_status (audits.Open state act) = statuses.InvalidCert
+
+unfoldable pub audited_reply : Grounded → List (List ℕ) → Reply
+audited_reply grounded cert =
+    let audit = audit_of grounded.task cert in record { text = audit_text grounded.act_names cert audit; status = audit_status audit }

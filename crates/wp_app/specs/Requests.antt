@@ -6,7 +6,7 @@ use Rattle.wp_syntax.specs.declared.error.Part.TheVariants as parts
 use Rattle.wp_watch.specs.declared.watch.WatchKind.{WatchKind}
 use Rattle.wp_watch.specs.declared.watch.WatchKind.TheVariants.{Silent}
 use Rattle.wp_words.specs.declared.commands.Command.{Command}
-use Rattle.wp_words.specs.declared.commands.Command.TheVariants.{Check, Gen, Ground, Plan}
+use Rattle.wp_words.specs.declared.commands.Command.TheVariants.{Audit, Check, Gen, Ground, Plan}
 use Rattle.wp_words.specs.Kinds.{is_kind}
 use Rattle.wp_words.specs.Words.{command_of}
 
@@ -26,10 +26,11 @@ pub record Request : Type 0 where
 
 -- whether a command keeps the watchers of a kind: a search keeps those that its words ask for, and the silent ones
 abbrev pub keeps_kind : Command → WatchKind → Bool
-keeps_kind (Plan domain problem settings watch plain) kind = is_kind kind Silent || list_any (is_kind kind) watch
+keeps_kind (Plan domain problem settings watch plain closed) kind = is_kind kind Silent || list_any (is_kind kind) watch
 keeps_kind (Gen number size settings watch plain) kind = is_kind kind Silent || list_any (is_kind kind) watch
 keeps_kind (Check domain problem plan) kind = false
 keeps_kind (Ground domain problem) kind = false
+keeps_kind (Audit domain problem certificate) kind = false
 
 -- the watchers that a command keeps, in their order
 abbrev pub kept_of : Command → List (WatchKind × Option ℕ) → List (WatchKind × Option ℕ)
@@ -47,10 +48,17 @@ abbrev pub file_of : Command → Part → Option (List ℕ)
 file_of (Check domain problem plan) parts.Domain = Some domain
 file_of (Check domain problem plan) parts.Problem = Some problem
 file_of (Check domain problem plan) parts.Plan = Some plan
+file_of (Check domain problem plan) parts.Certificate = None
 file_of (Ground domain problem) parts.Domain = Some domain
 file_of (Ground domain problem) parts.Problem = Some problem
 file_of (Ground domain problem) parts.Plan = None
-file_of (Plan domain problem settings watch plain) parts.Domain = Some domain
-file_of (Plan domain problem settings watch plain) parts.Problem = Some problem
-file_of (Plan domain problem settings watch plain) parts.Plan = None
+file_of (Ground domain problem) parts.Certificate = None
+file_of (Plan domain problem settings watch plain closed) parts.Domain = Some domain
+file_of (Plan domain problem settings watch plain closed) parts.Problem = Some problem
+file_of (Plan domain problem settings watch plain closed) parts.Plan = None
+file_of (Plan domain problem settings watch plain closed) parts.Certificate = None
+file_of (Audit domain problem certificate) parts.Domain = Some domain
+file_of (Audit domain problem certificate) parts.Problem = Some problem
+file_of (Audit domain problem certificate) parts.Plan = None
+file_of (Audit domain problem certificate) parts.Certificate = Some certificate
 file_of (Gen number size settings watch plain) part = None

@@ -1,7 +1,7 @@
 -- The statuses: the exit code of each, and those that the definition of the output gives.
 use Rattle.std.specs.Prelude.{ℕ, Bool, true, false}
 use Rattle.wp_app.specs.declared.reply.Status.{Status}
-use Rattle.wp_app.specs.declared.reply.Status.TheVariants.{Done, InvalidPlan, Usage, Refused, Limit, NoPlan, QueueEmpty, Budget, Words, OutOfReach, ReadFault, WriteFault, Memory}
+use Rattle.wp_app.specs.declared.reply.Status.TheVariants.{Done, InvalidPlan, Usage, Refused, Limit, InvalidCert, NoPlan, QueueEmpty, Budget, Words, OutOfReach, ReadFault, WriteFault, Memory}
 
 abbrev pub code_of : Status → ℕ
 code_of Done = 0
@@ -9,6 +9,7 @@ code_of InvalidPlan = 1
 code_of Usage = 2
 code_of Refused = 3
 code_of Limit = 4
+code_of InvalidCert = 5
 code_of NoPlan = 10
 code_of QueueEmpty = 11
 code_of Budget = 12

@@ -54,5 +54,6 @@ fn limit(part: Part) -> u64
     match part {
         Part::Domain => 4_194_304,
         Part::Problem | Part::Plan => 16_777_216,
+        Part::Certificate => 268_435_456,
     }
 }

@@ -48,6 +48,7 @@ pub fn generated<R: Threads + Sync, G: Gate>(
     let shown = Shown {
         front: gen_text(alloc, number, size)?,
         with_plan: false,
+        closed: false,
     };
     planned(rt, alloc, shown, &texts, settings, plain, gate, watchers)
 }

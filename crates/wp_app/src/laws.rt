@@ -1,7 +1,8 @@
 //! Laws of the answers to `plan`: what the printed text and the statuses say of the files.
 
-ghost use Rattle.wp_app.specs.Laws.{AnswersOfNoPlanAreTrue, DoneAnswersAreValidPlans, EmptiedSearchesHaveNoPlan, FoundPlansAreReadBack, GoalsOutOfReachHaveNoPlan, LargeBudgetsAreNotSpent, LargeLimitsAreNotReached, SearchesAreBounded};
+ghost use Rattle.wp_app.specs.Laws.{AnswersOfNoPlanAreTrue, ClosedAnswersAreCertified, DoneAnswersAreValidPlans, EmptiedSearchesHaveNoPlan, FoundPlansAreReadBack, GoalsOutOfReachHaveNoPlan, LargeBudgetsAreNotSpent, LargeLimitsAreNotReached, SearchesAreBounded};
 
+use wp_cert::{emptied_output_is_certified, emptied_searches_keep_few};
 use wp_check::{comments_join, plans_of_texts_are_read_back};
 use wp_ground::{plans_are_valid, unreached_goals_have_no_plan, valid_plans_are_numbered};
 use wp_lift::liftings_are_formed;
@@ -67,4 +68,14 @@ pub fn answers_of_no_plan_are_true()
 {
     goals_out_of_reach_have_no_plan();
     emptied_searches_have_no_plan();
+}
+
+/// Where `plan --closed` answers that there is no plan, its whole text is read as a certificate, and an audit of it in the task of the
+/// files that were read says yes.
+pub fn closed_answers_are_certified()
+    ensures { ClosedAnswersAreCertified }
+{
+    comments_join();
+    emptied_searches_keep_few();
+    emptied_output_is_certified();
 }

@@ -7,7 +7,9 @@
 //! a reply. `wp_main` calls it with the real files and output, tests with those in memory.
 #![tactic(auto)]
 
+mod audit;
 mod check;
+mod closed;
 mod fetch;
 mod generate;
 mod generated;
@@ -25,12 +27,12 @@ mod stop;
 
 pub use generated::made_tasks_are_not_refused;
 pub use laws::{
-    answers_of_no_plan_are_true, done_answers_are_valid_plans, emptied_searches_have_no_plan,
-    found_plans_are_read_back, goals_out_of_reach_have_no_plan, large_limits_are_not_reached,
-    searches_are_bounded,
+    answers_of_no_plan_are_true, closed_answers_are_certified, done_answers_are_valid_plans,
+    emptied_searches_have_no_plan, found_plans_are_read_back, goals_out_of_reach_have_no_plan,
+    large_limits_are_not_reached, searches_are_bounded,
 };
 pub use meanings::{
-    answers_are_of_their_commands, checks_are_true, endings_have_their_statuses,
+    answers_are_of_their_commands, audits_are_true, checks_are_true, endings_have_their_statuses,
     missing_files_have_no_answer, no_plan_is_true, plain_plays_no_part, refusals_have_their_causes,
     tasks_are_grounded, unreached_goals_are_answered, usage_is_of_no_command,
     workers_change_no_answer,

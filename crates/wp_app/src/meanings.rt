@@ -1,8 +1,9 @@
 //! Laws of the answers of all commands: what each status means, in the words of the definitions.
 
 ghost use Rattle.wp_app.specs.Causes.{LimitsHaveTheirCauses, MissingFilesHaveNoAnswer, PlainPlaysNoPart, RefusalsHaveTheirCauses, TasksAreGrounded, UsageIsOfNoCommand, WorkersChangeNoAnswer};
-ghost use Rattle.wp_app.specs.Meanings.{AnswersAreOfTheirCommands, DoneChecksHaveValidPlans, EndingsHaveTheirStatuses, InvalidChecksHaveInvalidPlans, NoPlanIsTrue, UnreachedGoalsAreAnswered};
+ghost use Rattle.wp_app.specs.Meanings.{AnswersAreOfTheirCommands, DoneAuditsHaveClosedStates, DoneAuditsHaveNoPlan, DoneChecksHaveValidPlans, EndingsHaveTheirStatuses, InvalidAuditsHaveOpenStates, InvalidChecksHaveInvalidPlans, NoPlanIsTrue, UnreachedGoalsAreAnswered};
 
+use wp_cert::yes_has_no_plan;
 use wp_check::valid_steps_name_valid_plans;
 use wp_ground::{plans_are_valid, unreached_goals_have_no_plan, valid_plans_are_numbered};
 use wp_lift::liftings_are_formed;
@@ -22,12 +23,24 @@ pub fn checks_are_true()
     valid_steps_name_valid_plans();
 }
 
+/// `audit` is done exactly where its three files are read, no cause is against the task, and the states of the certificate are closed in
+/// it; it answers that the certificate is invalid exactly where they are not. Where it is done no plan is valid, whoever made the
+/// certificate.
+pub fn audits_are_true()
+    ensures done { DoneAuditsHaveClosedStates }
+    ensures invalid { InvalidAuditsHaveOpenStates }
+    ensures none { DoneAuditsHaveNoPlan }
+{
+    liftings_are_formed();
+    yes_has_no_plan();
+}
+
 /// A search that has a task answers the status of its ending, and the status of an ending comes of such a search alone.
 pub fn endings_have_their_statuses()
     ensures { EndingsHaveTheirStatuses }
 {}
 
-/// `ground`, `plan` and `gen` answer that a goal is out of reach exactly where it is.
+/// `ground`, `plan`, `gen` and `audit` answer that a goal is out of reach exactly where it is.
 pub fn unreached_goals_are_answered()
     ensures { UnreachedGoalsAreAnswered }
 {}

@@ -1,4 +1,5 @@
-//! The answer to `plan`: the domain and the problem are fetched and read, and the task is searched.
+//! The answer to `plan`: the domain and the problem are fetched and read, and the task is searched. Where there is no plan, a
+//! certificate of that may stand behind.
 
 ghost use Rattle.std.specs.Prelude.{◌≡◌, ◌≤◌, ◌++◌, ℕ, [], List, Option, length, IfOk, OnOk, IsTrue, IsUtf8};
 ghost use Rattle.wp_plain.specs.Ranges.{AreInRange};
@@ -16,6 +17,7 @@ ghost use Rattle.wp_app.specs.Table.{answer_to_plan};
 ghost use Rattle.wp_report.specs.Endings.{IsPlanBelow};
 ghost use Rattle.wp_report.specs.Tasks.{IsNamed};
 
+use crate::closed::certified;
 use crate::ground::grounded_of;
 use crate::inputs::{Texts, read_texts};
 use crate::readers::lifted_of;
@@ -42,6 +44,7 @@ pub fn plan_files<R: Threads + Sync, S: Shelf, G: Gate>(
     problem: &Text,
     settings: &Settings,
     plain: bool,
+    closed: bool,
     gate: &G,
     watchers: Watchers,
 ) -> Result<Reply, Stop>
@@ -51,7 +54,7 @@ pub fn plan_files<R: Threads + Sync, S: Shelf, G: Gate>(
     requires untold { AreUntold (places_in kind until told watchers) }
     ensures follows { (list : List (WatchKind × Option ℕ))
         → AreAfter list [] (places_in kind until told watchers) →
-        Follows (S.contents shelf.old) (answer_to_plan domain.now problem.now settings.now list)
+        Follows (S.contents shelf.old) (answer_to_plan domain.now problem.now settings.now closed list)
         (S.faults shelf.old) (S.faults shelf.new) result }
     ensures defined { IfOk result (λ reply. IsTrue (is_of_files reply.status)) }
     ensures unread { IfUnread result (IsInputReached (S.contents shelf.old) domain.now) }
@@ -59,17 +62,18 @@ pub fn plan_files<R: Threads + Sync, S: Shelf, G: Gate>(
     ensures later { S.faults shelf.old ≤ S.faults shelf.new }
 {
     let texts = read_texts(alloc, shelf, domain, problem)?;
-    let shown = whole(alloc);
+    let shown = whole(alloc, closed);
     planned(rt, alloc, shown, &texts, settings, plain, gate, watchers)
 }
 
 // All of a search, with nothing before it.
-fn whole(alloc: Global) -> Shown
-    ensures { result ≡ whole }
+fn whole(alloc: Global, closed: bool) -> Shown
+    ensures { result ≡ whole closed }
 {
     Shown {
         front: Text::of_vec(Vec::new(alloc)),
         with_plan: true,
+        closed,
     }
 }
 
@@ -97,7 +101,8 @@ pub fn planned<R: Threads + Sync, G: Gate>(
     Ok(searched(rt, alloc, shown, settings, &grounded, plain, gate, watchers)?)
 }
 
-/// The ending of the search of the task, and what the watchers say of it.
+/// The ending of the search of the task, what the watchers say of it, and the certificate where there is no plan and it is
+/// asked for.
 #[tactic(auto, unfolding(crate::specs::Output::searched_reply))]
 fn searched<R: Threads + Sync, G: Gate>(
     rt: &R,
@@ -132,9 +137,11 @@ fn searched<R: Threads + Sync, G: Gate>(
         gate,
         &mut watchers,
     )?;
+    let closed = shown.closed;
     let reply = ending_reply(alloc, shown, settings, grounded, &ending)?;
     let texts = watchers.texts(alloc)?;
-    with_texts(reply, &texts)
+    let reply = with_texts(reply, &texts)?;
+    certified(alloc, reply, closed, &grounded.task, ending.counts.kept)
 }
 
 /// The reply with more text behind its own.
@@ -194,7 +201,11 @@ fn ending_reply(
     ensures defined { IfOk result (λ reply. IsTrue (is_of_files reply.status)) }
 {
     let tuples = tuple_count(settings.width, grounded.task.atoms());
-    let Shown { front, with_plan } = shown;
+    let Shown {
+        front,
+        with_plan,
+        closed: _,
+    } = shown;
     let text = ending_text(alloc, grounded, settings, tuples, ending, with_plan)?;
     Ok(Reply {
         text: behind(front, &text)?,

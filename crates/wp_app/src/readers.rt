@@ -1,7 +1,7 @@
 //! The readers of the texts as steps of a run: a fault of a text is an answer.
 
 ghost use Rattle.std.specs.Prelude.{◌≡◌, IfOk, IsTrue};
-ghost use Rattle.wp_app.specs.Output.{domain_in, domain_step, items_step, lifted_step, plan_step, problem_in, problem_step, refused, verdict_reply, verdict_status};
+ghost use Rattle.wp_app.specs.Output.{cert_step, domain_in, domain_step, items_step, lifted_step, plan_step, problem_in, problem_step, refused, verdict_reply, verdict_status};
 ghost use Rattle.wp_app.specs.Statuses.{is_of_files};
 ghost use Rattle.wp_app.specs.Steps.{goes, ◌>>=◌ as ◌and_then◌};
 ghost use Rattle.wp_app.specs.Stops.{Meets};
@@ -11,6 +11,7 @@ use crate::inputs::Texts;
 use crate::reply::{Reply, Status};
 use crate::stop::{Stop, ended};
 use std::alloc::{AllocError, Global};
+use wp_cert::{Cert, CertError, cert_error_text, read_cert};
 use wp_check::{PlanError, Steps, Verdict, read_plan, verdict};
 use wp_edge::Text;
 use wp_lex::{LexError, Tree, read_tree};
@@ -80,6 +81,18 @@ pub fn steps_of(alloc: Global, text: &Text) -> Result<Steps, Stop>
         Ok(steps) => Ok(steps),
         Err(PlanError::Memory) => Err(Stop::Memory),
         Err(error) => refuse(plan_error_text(alloc, &error)?),
+    }
+}
+
+/// The certificate of a text, or the refusal of it.
+#[tactic(auto, unfolding(crate::specs::Output::cert_step))]
+pub fn cert_of(alloc: Global, text: &Text) -> Result<Cert, Stop>
+    ensures { Meets (cert_step text.now) result }
+{
+    match read_cert(alloc, text.as_slice()) {
+        Ok(cert) => Ok(cert),
+        Err(CertError::Memory) => Err(Stop::Memory),
+        Err(error) => refuse(cert_error_text(alloc, &error)?),
     }
 }
 

@@ -7,7 +7,7 @@ use wp_edge::Text;
 /// How a run ended, as an exit status.
 #[derive(Clone, Copy, Debug, PartialEq, Eq)]
 pub enum Status {
-    /// A plan was found, or is valid, or a task was printed.
+    /// A plan was found, or is valid, or a task was printed, or the states of a certificate are closed.
     Done,
     /// The plan that was to be checked is not valid.
     InvalidPlan,
@@ -17,6 +17,8 @@ pub enum Status {
     Refused,
     /// A file or a task is larger than its limit.
     Limit,
+    /// The states of a certificate are not closed.
+    InvalidCert,
     /// BFWS(f5) has no node left to expand: no plan exists.
     NoPlan,
     /// k-BFWS has no node left to expand, which says nothing of plans.
@@ -48,6 +50,7 @@ impl Status {
             Status::Usage => 2,
             Status::Refused => 3,
             Status::Limit => 4,
+            Status::InvalidCert => 5,
             Status::NoPlan => 10,
             Status::QueueEmpty => 11,
             Status::Budget => 12,

@@ -12,6 +12,7 @@ ghost use Rattle.wp_app.specs.Statuses.{is_defined, is_of_files};
 ghost use Rattle.wp_app.specs.Stops.{Follows, IfUnread};
 ghost use Rattle.wp_app.specs.Table.{answer_to_request};
 
+use crate::audit::audit_files;
 use crate::check::check;
 use crate::generate::generated;
 use crate::ground::ground_files;
@@ -142,7 +143,7 @@ fn keeps_kind(command: &Command, kind: WatchKind) -> bool
         Command::Plan { watch, .. } | Command::Gen { watch, .. } => {
             kind == WatchKind::Silent || watch.as_slice().contains(&kind)
         }
-        Command::Check { .. } | Command::Ground { .. } => false,
+        Command::Check { .. } | Command::Ground { .. } | Command::Audit { .. } => false,
     }
 }
 
@@ -211,8 +212,9 @@ fn run_command<R: Threads + Sync, S: Shelf, G: Gate>(
             settings,
             watch: _,
             plain,
+            closed,
         } => plan_files(
-            rt, alloc, shelf, domain, problem, settings, *plain, gate, watchers,
+            rt, alloc, shelf, domain, problem, settings, *plain, *closed, gate, watchers,
         ),
         Command::Gen {
             number,
@@ -221,5 +223,10 @@ fn run_command<R: Threads + Sync, S: Shelf, G: Gate>(
             watch: _,
             plain,
         } => generated(rt, alloc, *number, *size, settings, *plain, gate, watchers),
+        Command::Audit {
+            domain,
+            problem,
+            certificate,
+        } => audit_files(alloc, shelf, domain, problem, certificate),
     }
 }

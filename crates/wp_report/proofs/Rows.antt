@@ -2,7 +2,7 @@
 use Rattle.std.specs.Prelude.{◌≡◌, ℕ, true, false, List, [], ◌∷◌, ◌++◌, codes, refl}
 use Rattle.std.specs.Fmt.{digits}
 use Rattle.wp_lex.specs.declared.error.LexError.TheVariants as lexical
-use Rattle.wp_syntax.specs.declared.error.Part.TheVariants.{Domain, Problem, Plan}
+use Rattle.wp_syntax.specs.declared.error.Part.TheVariants.{Domain, Problem, Plan, Certificate}
 use Rattle.wp_syntax.specs.declared.error.PddlKind.TheVariants.{Unsupported, TooMany}
 use Rattle.wp_syntax.specs.declared.error.PddlError.TheVariants.{Bad}
 use Rattle.wp_check.specs.declared.step.PlanError.TheVariants as plans
@@ -85,6 +85,11 @@ unread : read_fault_text Plan ++ too_long_text Domain 4194304
     ≡ codes "; read fault: plan\n; limit: domain longer than 4194304 bytes\n"
 unfolding read_fault_text too_long_text digits
 unread = refl
+
+unread_certificate : read_fault_text Certificate ++ too_long_text Certificate 268435456
+    ≡ codes "; read fault: certificate\n; limit: certificate longer than 268435456 bytes\n"
+unfolding read_fault_text too_long_text digits
+unread_certificate = refl
 
 generated : gen_text 4294967295 64 ≡ codes "; gen number 4294967295 size 64\n"
 unfolding gen_text digits

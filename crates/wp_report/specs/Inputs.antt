@@ -3,13 +3,14 @@
 -- Each line ends with a line feed; numbers are plain decimal.
 use Rattle.std.specs.Prelude.{ℕ, List, ◌++◌, codes, decimal}
 use Rattle.wp_syntax.specs.declared.error.Part.{Part}
-use Rattle.wp_syntax.specs.declared.error.Part.TheVariants.{Domain, Problem, Plan}
+use Rattle.wp_syntax.specs.declared.error.Part.TheVariants.{Domain, Problem, Plan, Certificate}
 use Rattle.wp_check.specs.PlanText.{line}
 
 abbrev pub part_text : Part → List ℕ
 part_text Domain = codes "domain"
 part_text Problem = codes "problem"
 part_text Plan = codes "plan"
+part_text Certificate = codes "certificate"
 
 unfoldable pub too_long_text : Part → ℕ → List ℕ
 too_long_text part limit = line (codes "; limit: " ++ part_text part ++ codes " longer than " ++ decimal limit ++ codes " bytes")

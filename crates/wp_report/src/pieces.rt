@@ -39,5 +39,6 @@ pub fn part_word(part: Part) -> &'static str
         Part::Domain => "domain",
         Part::Problem => "problem",
         Part::Plan => "plan",
+        Part::Certificate => "certificate",
     }
 }

@@ -13,6 +13,7 @@ pub enum Part {
     Domain,
     Problem,
     Plan,
+    Certificate,
 }
 
 /// What is wrong. Readers answer the first four and `TooMany`, by way of `ReadKind`; the others are faults of names.

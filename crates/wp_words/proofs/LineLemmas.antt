@@ -1,8 +1,8 @@
--- The four commands are such that the definitions of `clap` are exact for them.
+-- The commands are such that the definitions of `clap` are exact for them.
 use Rattle.std.proofs.Common.{◌≡◌, ◌∙◌, true, refl, ap}
 use Rattle.clap.specs.Faults.{is_simple_and_free}
 use Rattle.clap.specs.Simple.{App}
-use Rattle.wp_words.specs.CommandLines.{check_line, gen_line, ground_line, plan_line}
+use Rattle.wp_words.specs.CommandLines.{audit_line, check_line, gen_line, ground_line, plan_line}
 
 pub plan_line-simple : (app : App) → app ≡ plan_line → is_simple_and_free app ≡ true
 unfolding plan_line
@@ -19,3 +19,7 @@ ground_line-simple app is = ap is_simple_and_free is ∙ refl
 pub gen_line-simple : (app : App) → app ≡ gen_line → is_simple_and_free app ≡ true
 unfolding gen_line
 gen_line-simple app is = ap is_simple_and_free is ∙ refl
+
+pub audit_line-simple : (app : App) → app ≡ audit_line → is_simple_and_free app ≡ true
+unfolding audit_line
+audit_line-simple app is = ap is_simple_and_free is ∙ refl

@@ -7,8 +7,8 @@ use Rattle.wp_plain.specs.declared.settings.Settings.{Settings}
 use Rattle.wp_watch.specs.declared.watch.WatchKind.{WatchKind}
 use Rattle.wp_watch.specs.declared.watch.WatchKind.TheVariants.{Tally, Trace, Fronts}
 use Rattle.wp_words.specs.declared.commands.Command.{Command}
-use Rattle.wp_words.specs.declared.commands.Command.TheVariants.{Plan, Check, Ground, Gen}
-use Rattle.wp_words.specs.CommandLines.{check_line, entries_of, gen_line, ground_line, plan_line}
+use Rattle.wp_words.specs.declared.commands.Command.TheVariants.{Plan, Check, Ground, Gen, Audit}
+use Rattle.wp_words.specs.CommandLines.{audit_line, check_line, entries_of, gen_line, ground_line, plan_line}
 use Rattle.wp_words.specs.Options.{options_in}
 use Rattle.wp_words.specs.Words.{command_of}
 
@@ -24,7 +24,7 @@ abbrev defaults : Settings
 defaults = record { search = F5; width = 2; budget = 1000000; words = 134217728; workers = 1; ahead = 0 }
 
 abbrev planned : Settings → List WatchKind → Bool → Option Command
-planned settings watch plain = Some (Plan (codes "d") (codes "p") settings watch plain)
+planned settings watch plain = Some (Plan (codes "d") (codes "p") settings watch plain false)
 
 abbrev with_settings : Settings → Option Command
 with_settings settings = planned settings [] false
@@ -37,18 +37,25 @@ commands =
     (codes "plan d p", with_settings defaults)
     ∷ (codes "check d p q", Some (Check (codes "d") (codes "p") (codes "q")))
     ∷ (codes "ground d p", Some (Ground (codes "d") (codes "p")))
+    ∷ (codes "audit d p c", Some (Audit (codes "d") (codes "p") (codes "c")))
+    ∷ (codes "plan d p --closed", Some (Plan (codes "d") (codes "p") defaults [] false true))
+    ∷ (codes "plan --closed d p --plain", Some (Plan (codes "d") (codes "p") defaults [] true true))
     ∷ (codes "plan d", None)
     ∷ (codes "plan d p q", None)
     ∷ (codes "check d p", None)
     ∷ (codes "check d p q r", None)
     ∷ (codes "ground d", None)
     ∷ (codes "ground d p --plain", None)
+    ∷ (codes "audit d p", None)
+    ∷ (codes "audit d p c --plain", None)
+    ∷ (codes "gen 7 1 --closed", None)
+    ∷ (codes "plan d p --closed --closed", None)
     ∷ (codes "fly", None)
     ∷ (codes "fly d p", None)
     ∷ []
 
 commands_read : map (λ (row : Row). command_in row.0) commands ≡ map (λ (row : Row). row.1) commands
-unfolding clap_on_literals plan_line check_line ground_line gen_line entries_of options_in
+unfolding clap_on_literals plan_line audit_line check_line ground_line gen_line entries_of options_in
 commands_read = refl
 
 abbrev settings : List Row
@@ -82,7 +89,7 @@ settings =
     ∷ []
 
 settings_read : map (λ (row : Row). command_in row.0) settings ≡ map (λ (row : Row). row.1) settings
-unfolding clap_on_literals plan_line check_line ground_line gen_line entries_of options_in
+unfolding clap_on_literals plan_line audit_line check_line ground_line gen_line entries_of options_in
 settings_read = refl
 
 abbrev watchers : List Row
@@ -101,7 +108,7 @@ watchers = (
     ∷ []
 
 watchers_read : map (λ (row : Row). command_in row.0) watchers ≡ map (λ (row : Row). row.1) watchers
-unfolding clap_on_literals plan_line check_line ground_line gen_line entries_of options_in
+unfolding clap_on_literals plan_line audit_line check_line ground_line gen_line entries_of options_in
 watchers_read = refl
 
 -- what `clap` makes of names that are given twice or cut short, of calls for help, and of words that begin with `-`
@@ -122,7 +129,7 @@ dashes =
     ∷ []
 
 dashes_read : map (λ (row : Row). command_in row.0) dashes ≡ map (λ (row : Row). row.1) dashes
-unfolding clap_on_literals plan_line check_line ground_line gen_line entries_of options_in
+unfolding clap_on_literals plan_line audit_line check_line ground_line gen_line entries_of options_in
 dashes_read = refl
 
 -- numbers and sizes, at the ends of their ranges and past them
@@ -146,5 +153,5 @@ tasks =
     ∷ []
 
 tasks_read : map (λ (row : Row). command_in row.0) tasks ≡ map (λ (row : Row). row.1) tasks
-unfolding clap_on_literals plan_line check_line ground_line gen_line entries_of options_in
+unfolding clap_on_literals plan_line audit_line check_line ground_line gen_line entries_of options_in
 tasks_read = refl

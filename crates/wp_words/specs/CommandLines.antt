@@ -42,7 +42,7 @@ abbrev pub with_files : App → App
 with_files app = with_positional (with_positional app (codes "domain")) (codes "problem")
 
 unfoldable pub plan_line : App
-plan_line = with_options (with_files (new_app (codes "plan")))
+plan_line = with_flag (with_options (with_files (new_app (codes "plan")))) (codes "closed")
 
 unfoldable pub check_line : App
 check_line = with_positional (with_files (new_app (codes "check"))) (codes "plan")
@@ -52,6 +52,9 @@ ground_line = with_files (new_app (codes "ground"))
 
 unfoldable pub gen_line : App
 gen_line = with_options (with_positional (with_positional (new_app (codes "gen")) (codes "number")) (codes "size"))
+
+unfoldable pub audit_line : App
+audit_line = with_positional (with_files (new_app (codes "audit"))) (codes "certificate")
 
 -- the entries of the words; none where the command does not take them
 unfoldable pub entries_of : App → List (List ℕ) → Option (List Row)

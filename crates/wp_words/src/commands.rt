@@ -8,13 +8,14 @@ use wp_watch::WatchKinds;
 #[derive(Drop)]
 pub enum Command {
     /// Searches for a plan of a problem. `watch` has each kind of watcher at most once, in the order of the words; `plain`
-    /// asks for the search that scans lists.
+    /// asks for the search that scans lists, `closed` for a certificate where there is no plan.
     Plan {
         domain: Text,
         problem: Text,
         settings: Settings,
         watch: WatchKinds,
         plain: bool,
+        closed: bool,
     },
 
     /// Says whether a plan is valid in a problem.
@@ -37,5 +38,12 @@ pub enum Command {
         settings: Settings,
         watch: WatchKinds,
         plain: bool,
+    },
+
+    /// Says whether the states of a certificate are closed in the task of a problem, so that it has no plan.
+    Audit {
+        domain: Text,
+        problem: Text,
+        certificate: Text,
     },
 }

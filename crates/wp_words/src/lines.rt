@@ -4,18 +4,19 @@
 //! clauses of `clap` say exactly which words it takes and what it makes of them.
 ghost use Rattle.std.specs.Prelude.{◌≡◌, IfOk, false};
 ghost use Rattle.clap.specs.Words.{app_of, rule_of, with_rule};
-ghost use Rattle.wp_words.specs.CommandLines.{check_line, flag, gen_line, ground_line, option, plan_line, positional};
+ghost use Rattle.wp_words.specs.CommandLines.{audit_line, check_line, flag, gen_line, ground_line, option, plan_line, positional};
 ghost use Rattle.wp_words.specs.CommandLines.{with_files, with_flag, with_numbers, with_option, with_options, with_positional};
 
 use clap::{Arg, ArgAction, Command};
 use std::alloc::{AllocError, Global};
 
-/// `plan DOMAIN PROBLEM [options]`.
+/// `plan DOMAIN PROBLEM [options]`, with an option of its own.
 #[tactic(auto, unfolding(crate::specs::CommandLines::plan_line))]
 pub fn plan_line<'a>(alloc: Global) -> Result<Command<'a>, AllocError>
     ensures { IfOk result (λ line. app_of line ≡ plan_line) }
 {
-    with_options(alloc, with_files(alloc, Command::new(alloc, "plan"))?)
+    let line = with_options(alloc, with_files(alloc, Command::new(alloc, "plan"))?)?;
+    with_flag(alloc, line, "closed")
 }
 
 /// `check DOMAIN PROBLEM PLAN`.
@@ -45,6 +46,18 @@ pub fn gen_line<'a>(alloc: Global) -> Result<Command<'a>, AllocError>
 {
     let line = with_positional(alloc, Command::new(alloc, "gen"), "number")?;
     with_options(alloc, with_positional(alloc, line, "size")?)
+}
+
+/// `audit DOMAIN PROBLEM CERTIFICATE`.
+#[tactic(auto, unfolding(crate::specs::CommandLines::audit_line))]
+pub fn audit_line<'a>(alloc: Global) -> Result<Command<'a>, AllocError>
+    ensures { IfOk result (λ line. app_of line ≡ audit_line) }
+{
+    with_positional(
+        alloc,
+        with_files(alloc, Command::new(alloc, "audit"))?,
+        "certificate",
+    )
 }
 
 fn with_files<'a>(alloc: Global, line: Command<'a>) -> Result<Command<'a>, AllocError>

@@ -38,7 +38,7 @@ pub fn read_options(alloc: Global, matches: &ArgMatches<'_>) -> Result<Options, 
     Ok(Options {
         settings,
         watch,
-        plain: is_set(matches),
+        plain: is_set(matches, "plain"),
     })
 }
 
@@ -107,10 +107,11 @@ fn kinds_or_none(alloc: Global, matches: &ArgMatches<'_>) -> Result<WatchKinds, 
     }
 }
 
-fn is_set(matches: &ArgMatches<'_>) -> bool
-    ensures { result ≡ is_set (first_of (codes "plain") (entries_in matches.now)) }
+/// Whether the flag of that name is given.
+pub fn is_set(matches: &ArgMatches<'_>, id: &str) -> bool
+    ensures { result ≡ is_set (first_of id.now (entries_in matches.now)) }
 {
-    match value_of(matches, "plain") {
+    match value_of(matches, id) {
         Some(value) => value == "true",
         None => false,
     }

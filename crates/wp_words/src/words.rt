@@ -2,13 +2,13 @@
 ghost use Rattle.std.specs.Prelude.{◌≡◌, IfOk, None, Some, map, string_bytes};
 ghost use Rattle.wp_words.specs.CommandLines.{entries_in};
 ghost use Rattle.wp_words.specs.Names.{HasNames, IsInRange};
-ghost use Rattle.wp_words.specs.Words.{check_in, check_of, command_named, command_of, gen_in, gen_of, ground_in, ground_of, plan_in, plan_of};
+ghost use Rattle.wp_words.specs.Words.{audit_in, audit_of, check_in, check_of, command_named, command_of, gen_in, gen_of, ground_in, ground_of, plan_in, plan_of};
 
 use crate::commands::Command;
 use crate::entries::{name_of, read_entries};
 use crate::error::WordsError;
-use crate::lines::{check_line, gen_line, ground_line, plan_line};
-use crate::options::{Options, number_of, read_options};
+use crate::lines::{audit_line, check_line, gen_line, ground_line, plan_line};
+use crate::options::{Options, is_set, number_of, read_options};
 use clap::ArgMatches;
 use std::alloc::Global;
 
@@ -36,6 +36,7 @@ fn command_named(alloc: Global, name: &str, words: &[String]) -> Result<Command,
         "check" => check_of(alloc, words),
         "ground" => ground_of(alloc, words),
         "gen" => gen_of(alloc, words),
+        "audit" => audit_of(alloc, words),
         _ => Err(WordsError::Usage),
     }
 }
@@ -80,6 +81,16 @@ fn gen_of(alloc: Global, words: &[String]) -> Result<Command, WordsError>
     gen_in(alloc, &matches)
 }
 
+fn audit_of(alloc: Global, words: &[String]) -> Result<Command, WordsError>
+    ensures ok { IfOk result (λ command. audit_of (map string_bytes words.now) ≡ Some command) }
+    ensures usage { result ≡ Err WordsError.Usage → audit_of (map string_bytes words.now) ≡ None }
+    ensures names { IfOk result HasNames }
+    ensures range { IfOk result IsInRange }
+{
+    let matches = read_entries(audit_line(alloc)?, words)?;
+    audit_in(alloc, &matches)
+}
+
 fn plan_in(alloc: Global, matches: &ArgMatches<'_>) -> Result<Command, WordsError>
     ensures ok { IfOk result (λ command. plan_in (entries_in matches.now) ≡ Some command) }
     ensures usage { result ≡ Err WordsError.Usage → plan_in (entries_in matches.now) ≡ None }
@@ -99,6 +110,7 @@ fn plan_in(alloc: Global, matches: &ArgMatches<'_>) -> Result<Command, WordsErro
         settings,
         watch,
         plain,
+        closed: is_set(matches, "closed"),
     })
 }
 
@@ -124,6 +136,19 @@ fn ground_in(alloc: Global, matches: &ArgMatches<'_>) -> Result<Command, WordsEr
     Ok(Command::Ground {
         domain: name_of(alloc, matches, "domain")?,
         problem: name_of(alloc, matches, "problem")?,
+    })
+}
+
+fn audit_in(alloc: Global, matches: &ArgMatches<'_>) -> Result<Command, WordsError>
+    ensures ok { IfOk result (λ command. audit_in (entries_in matches.now) ≡ Some command) }
+    ensures usage { result ≡ Err WordsError.Usage → audit_in (entries_in matches.now) ≡ None }
+    ensures names { IfOk result HasNames }
+    ensures range { IfOk result IsInRange }
+{
+    Ok(Command::Audit {
+        domain: name_of(alloc, matches, "domain")?,
+        problem: name_of(alloc, matches, "problem")?,
+        certificate: name_of(alloc, matches, "certificate")?,
     })
 }
 

@@ -14,5 +14,5 @@ returns-in_err-texts-clause-follows g c list after =
 pub returns-clause-follows : goal.returns-clause-follows
 unfolding answer_to_plan
 returns-clause-follows g c list after =
-    goes_on_to (after_texts whole c.args.settings.now list) c.in_ok-texts.ensures.follows
-    (shows _ whole c.args.settings.now list _ c.planned.result c.whole-shown.ensures (c.planned.ensures.meets list after))
+    goes_on_to (after_texts (whole c.args.closed) c.args.settings.now list) c.in_ok-texts.ensures.follows
+    (shows _ (whole c.args.closed) c.args.settings.now list _ c.planned.result c.whole-shown.ensures (c.planned.ensures.meets list after))

@@ -13,3 +13,6 @@ returns-in-Plan-clause-follows g c list after = follows_request list _ _ c.in-Pl
 
 pub returns-in-Gen-clause-follows : goal.returns-in-Gen-clause-follows
 returns-in-Gen-clause-follows g c list after = follows_request list _ _ c.in-Gen.is (meets_follows (c.generated.ensures.meets list after))
+
+pub returns-in-Audit-clause-follows : goal.returns-in-Audit-clause-follows
+returns-in-Audit-clause-follows g c list after = follows_request list _ _ c.in-Audit.is c.audit_files.ensures.follows

@@ -1,0 +1,4 @@
+(define (problem none)
+  (:domain dead-end)
+  (:init (s))
+  (:goal (z)))
